@@ -1,11 +1,12 @@
 -- An input's line, as the machine takes it.
-use Rattle.std.proofs.Common.{◌≡◌, ◌⊎◌, ℕ, Bool, true, false, ◌&&◌, List, Option, Some, None, option_map, Result, Ok, Err, IfOk, IfErr, OnOk, IfSome, refl, sym, ap, ◌∙◌, inl, inr}
+use Rattle.std.proofs.Common.{◌≡◌, ◌⊎◌, ℕ, Bool, true, false, ◌&&◌, List, Option, Some, None, option_map, Result, Ok}
+use Rattle.std.proofs.Common.{Err, IfOk, IfErr, OnOk, IfSome, refl, sym, ap, ◌∙◌, inl, inr}
 use Rattle.std.specs.Option.{is_some}
 use Rattle.std.proofs.lemmas.Bool.{false≢true}
 use Rattle.la_journal.specs.Machine.{IsNamed}
 use Rattle.la_wire.specs.Calls.{WireCall}
 use Rattle.la_wire.specs.CallLines.{named_call, may_stand}
-use Rattle.la_node.specs.declared.node.Received as code_received
+use Rattle.la_durable.specs.declared.machine.NodeAnswer.{NodeAnswer}
 use Rattle.la_durable.specs.declared.error.NodeError.{NodeError}
 use Rattle.la_durable.specs.CallLines.{CallLine, is_line, call_line, call_line_where, or_tick, call_round_trip}
 use Rattle.la_durable.specs.Errors.{IsForMemory}
@@ -13,35 +14,40 @@ use Rattle.la_node.specs.Steps.{Given, given_of}
 use Rattle.la_replica.specs.ReplicaState.{ReplicaState}
 use Rattle.la_durable.specs.Inputs.{InputState}
 use Rattle.la_durable.proofs.lemmas.OwnLines.{own_line}
-use Rattle.la_durable.specs.Nodes.{acts, acts_by, step, given_by}
+use Rattle.la_durable.specs.Nodes.{acts, acts_by, step, leaves_be, node_answer_of, answer_to, node_answer_by}
+use Rattle.la_durable.specs.Nodes.{node_answers}
 
-module _ (n : ReplicaState) (line : List ℕ) (call : WireCall) (is : is_line line ≡ true) (says : named_call line ≡ Some call) where
+module _ (n : ReplicaState) (line : List ℕ) (call : WireCall) (is : is_line line ≡ true) (says : named_call line ≡
+    Some call) where
   names : named_call (or_tick (call_line line)).line ≡ Some call
   names = ap named_call (own_line line is) ∙ says
 
   comes_to : acts_by n (named_call (or_tick (call_line line)).line) ≡ acts n call
   comes_to = ap (acts_by n) names
 
-  pub step_taken : (r : Result code_received.Received NodeError) (after : ReplicaState)
-      → IfOk r (λ given. acts n call ≡ Some (given_of given, after))
+  pub step_taken : (r : Result NodeAnswer NodeError) (after : ReplicaState)
+      → IfOk r (λ a. acts n call ≡ Some (given_of a.received, after))
       → OnOk r (step n (or_tick (call_line line)) ≡ Some after)
-  step_taken (Ok given) after h = ap (option_map (λ (made : Given × ReplicaState). made.1)) (comes_to ∙ h)
+  step_taken (Ok a) after h = ap (option_map (λ (made : Given × ReplicaState). made.1)) (comes_to ∙ h)
   step_taken (Err e) after h = tt
 
-  pub answer_given : (r : Result code_received.Received NodeError) (after : ReplicaState)
-      → IfOk r (λ given. acts n call ≡ Some (given_of given, after))
-      → IfOk r (λ given. Some (given_of given) ≡ given_by n (or_tick (call_line line)))
-  answer_given (Ok given) after h = sym (ap (option_map (λ (made : Given × ReplicaState). made.0)) (comes_to ∙ h))
-  answer_given (Err e) after h = tt
+  pub answer_given : (r : Result NodeAnswer NodeError) (after : ReplicaState)
+      → IfOk r (λ a. acts n call ≡ Some (given_of a.received, after))
+      → IfOk r (λ a. a.still ≡ leaves_be n after call (given_of a.received))
+      → IfOk r (λ a. Some (node_answer_of a) ≡ node_answers n (or_tick (call_line line)))
+  answer_given (Ok a) after h is =
+      sym (ap (node_answer_by n) names ∙ ap (option_map (answer_to n call)) h
+      ∙ ap (λ b. Some (record { given = given_of a.received; still = b })) (sym is))
+  answer_given (Err e) after h is = tt
 
   nothing_taken : (e : NodeError) → IsForMemory e ⊎ (acts n call ≡ None)
       → IsForMemory e ⊎ (step n (or_tick (call_line line)) ≡ None)
   nothing_taken e (inl memory) = inl memory
   nothing_taken e (inr none) = inr (ap (option_map (λ (made : Given × ReplicaState). made.1)) (comes_to ∙ none))
 
-  pub step_refused : (r : Result code_received.Received NodeError) → IfErr r (λ e. IsForMemory e ⊎ (acts n call ≡ None))
+  pub step_refused : (r : Result NodeAnswer NodeError) → IfErr r (λ e. IsForMemory e ⊎ (acts n call ≡ None))
       → IfErr r (λ e. IsForMemory e ⊎ (step n (or_tick (call_line line)) ≡ None))
-  step_refused (Ok given) h = tt
+  step_refused (Ok a) h = tt
   step_refused (Err e) h = nothing_taken e h
 
 -- ## Reading

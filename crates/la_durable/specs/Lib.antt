@@ -4,3 +4,4 @@ pub mod Nodes
 pub mod Errors
 pub mod Inputs
 pub mod Restarts
+pub mod Still

@@ -1,5 +1,5 @@
 -- A node as a machine: what it keeps is its replica, and what it makes of a line.
-use Rattle.std.specs.Prelude.{◌≡◌, ◌==◌, List, [], length, Option, Some, None, option_map, option_and_then}
+use Rattle.std.specs.Prelude.{◌≡◌, ◌==◌, Bool, false, List, [], length, Option, Some, None, option_map, option_and_then}
 use Rattle.std.specs.Prelude.{if◌then◌else◌}
 use Rattle.la_set.specs.declared.counts.Counts.{Counts}
 use Rattle.la_set.specs.declared.update.Update.{Update}
@@ -12,12 +12,14 @@ use Rattle.la_replica.specs.declared.parcel.Parcel.{Parcel}
 use Rattle.la_replica.specs.declared.parcel.Content.{Content}
 use Rattle.la_replica.specs.declared.parcel.Content.TheVariants as content
 use Rattle.la_replica.specs.ReplicaState.{ReplicaState}
+use Rattle.la_replica.specs.Still.{has_grown, is_still}
 use Rattle.la_node.specs.Calls.{NodeCall, Submitted, Proposed}
 use Rattle.la_node.specs.Accepting.{parcel_call}
-use Rattle.la_node.specs.Steps.{Given, node_step}
+use Rattle.la_node.specs.Steps.{Given, given_of, node_step}
 use Rattle.la_wire.specs.Messages.{WireMessage, WireBody, Offer, Yes, No, Tell}
 use Rattle.la_wire.specs.Calls.{WireCall, Submit, Decide, Ask, Tick, Receive, Known}
 use Rattle.la_wire.specs.CallLines.{named_call}
+use Rattle.la_durable.specs.declared.machine.NodeAnswer.{NodeAnswer}
 use Rattle.la_durable.specs.declared.machine.NodeMachine.{NodeMachine}
 use Rattle.la_durable.specs.CallLines.{CallLine}
 
@@ -70,12 +72,40 @@ abbrev pub acts_by : ReplicaState → Option WireCall → Option (Given × Repli
 acts_by r None = None
 acts_by r (Some call) = acts r call
 
+-- whether what was given out for a call, and how much is accepted, shows that the call left the replica as it was
+abbrev pub leaves_be : (before after : ReplicaState) → WireCall → Given → Bool
+leaves_be before after (Submit replica object op) given = false
+leaves_be before after (Decide replica commit value) given = false
+leaves_be before after (Ask replica object query) given = false
+leaves_be before after Tick given = false
+leaves_be before after (Known standing) given = false
+leaves_be before after (Receive m) given = is_still (has_grown before after m.instance) given.said
+
+-- what a call is answered: what is given out, and whether the replica is as it was
+pub record NodeAnswered : Type 0 where
+  pub given : Given
+  pub still : Bool
+
+abbrev pub node_answer_of : NodeAnswer → NodeAnswered
+node_answer_of a = record { given = given_of a.received; still = a.still }
+
+abbrev pub answer_to : ReplicaState → WireCall → Given × ReplicaState → NodeAnswered
+answer_to r call made = record { given = made.0; still = leaves_be r made.1 call made.0 }
+
+abbrev pub node_answer_by : ReplicaState → Option WireCall → Option NodeAnswered
+node_answer_by r None = None
+node_answer_by r (Some call) = option_map (answer_to r call) (acts r call)
+
+abbrev pub says_still : Option NodeAnswered → Bool
+says_still None = false
+says_still (Some answer) = answer.still
+
 abbrev pub step : ReplicaState → CallLine → Option ReplicaState
 step r c = option_map (λ (made : Given × ReplicaState). made.1) (acts_by r (named_call c.line))
 
--- and what it gives out
-abbrev pub given_by : ReplicaState → CallLine → Option Given
-given_by r c = option_map (λ (made : Given × ReplicaState). made.0) (acts_by r (named_call c.line))
+-- and what it answers
+abbrev pub node_answers : ReplicaState → CallLine → Option NodeAnswered
+node_answers r c = node_answer_by r (named_call c.line)
 
 -- no step makes the view smaller
 abbrev pub LinesGrowViews : Type 0

@@ -13,4 +13,4 @@ mod machine;
 
 pub use error::NodeError;
 pub use input::Input;
-pub use machine::NodeMachine;
+pub use machine::{NodeAnswer, NodeMachine};

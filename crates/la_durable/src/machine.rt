@@ -5,7 +5,8 @@ ghost use Rattle.la_node.specs.Configs.{IsConfig};
 ghost use Rattle.la_node.specs.Nodes.{node_at_start, IsStartRefusal};
 ghost use Rattle.la_replica.specs.ReplicaState.{ReplicaState};
 ghost use Rattle.la_node.specs.Steps.{given_of};
-ghost use Rattle.la_durable.specs.Nodes.{empty_shelf, kept_by, acts};
+ghost use Rattle.la_durable.specs.Nodes.{empty_shelf, kept_by, acts, leaves_be};
+ghost use Rattle.la_replica.specs.Still.{accepted_count};
 ghost use Rattle.la_durable.specs.Errors.{IsForMemory, IsActRefusal};
 ghost use Rattle.la_durable.specs.Errors.{RefusesSubmission, RefusesProposal, RefusesLetter};
 
@@ -27,6 +28,16 @@ const ROOM: usize = 58;
 #[derive(Drop)]
 pub struct NodeMachine {
     pub node: Node<Counter>,
+}
+
+/// What a node answers to a call.
+#[derive(Drop)]
+pub struct NodeAnswer {
+    /// What it gives out.
+    pub received: Received,
+    /// Whether the call left it as it was, as a message does that is ignored or repeats what is known: such a call
+    /// need not be kept.
+    pub still: bool,
 }
 
 impl NodeMachine {
@@ -73,6 +84,46 @@ impl NodeMachine {
             } => Err(NodeError::Unkept),
             Call::Tick => Err(NodeError::Unkept),
             Call::Known(_) => Err(NodeError::Unkept),
+        }
+    }
+
+    /// Takes a call as [`NodeMachine::act`] does, and says too whether it left the node as it was.
+    pub fn answer(&mut self, call: &Call) -> Result<NodeAnswer, NodeError>
+        ensures ok { IfOk result (λ answer.
+            acts (kept_by self.old) (called call.now) ≡ Some (given_of answer.received, kept_by self.new)) }
+        ensures still { IfOk result (λ answer. answer.still
+            ≡ leaves_be (kept_by self.old) (kept_by self.new) (called call.now) (given_of answer.received)) }
+        ensures error { IfErr result (λ e. IsForMemory e ⊎ (acts (kept_by self.old) (called call.now) ≡ None)) }
+        ensures refusal { IfErr result (IsActRefusal (kept_by self.old) call.now) }
+        ensures err { OnErr result (self.new ≡ self.old) }
+    {
+        match call {
+            Call::Receive(letter) => {
+                let instance = letter.parcel.instance;
+                let before = self.accepted_count(instance);
+                let received = self.act(call)?;
+                let grew = before < self.accepted_count(instance);
+                let still = received.done.said.is_still(grew);
+                Ok(NodeAnswer { received, still })
+            }
+            Call::Submit { .. }
+            | Call::Decide { .. }
+            | Call::Ask { .. }
+            | Call::Tick
+            | Call::Known(_) => Ok(NodeAnswer {
+                received: self.act(call)?,
+                still: false,
+            }),
+        }
+    }
+
+    // How many updates it has accepted in an instance.
+    fn accepted_count(&self, instance: u8) -> usize
+        ensures { result ≡ accepted_count (kept_by self.now) instance }
+    {
+        match self.node.accepted(instance) {
+            Some(accepted) => accepted.len(),
+            None => 0,
         }
     }
 
@@ -155,12 +206,12 @@ impl Machine for NodeMachine {
     ghost use Rattle.std.specs.Prelude.{Option};
     ghost use Rattle.la_durable.specs.CallLines.{CallLine, call_line, or_tick, call_round_trip, line_is_clean};
     ghost use Rattle.la_durable.specs.Heads.{node_head, head_is_clean};
-    ghost use Rattle.la_node.specs.Steps.{Given};
-    ghost use Rattle.la_durable.specs.Nodes.{step, given_by};
+    ghost use Rattle.la_durable.specs.Nodes.{step, NodeAnswered, node_answer_of, node_answers, says_still};
+    ghost use Rattle.la_durable.specs.Still.{still_calls};
 
     type Input = Input;
 
-    type Output = Received;
+    type Output = NodeAnswer;
 
     type Refusal = NodeError;
 
@@ -174,11 +225,15 @@ impl Machine for NodeMachine {
 
     ghost step = { step };
 
-    ghost Answer = { Option Given };
+    ghost Answer = { Option NodeAnswered };
 
-    ghost answer = { λ given. Some (given_of given) };
+    ghost answer = { λ answer. Some (node_answer_of answer) };
 
-    ghost answers = { given_by };
+    ghost answers = { node_answers };
+
+    ghost still = { says_still };
+
+    ghost stays = { still_calls };
 
     ghost text = { λ c. c.line };
 
@@ -200,8 +255,12 @@ impl Machine for NodeMachine {
         head_of(alloc, &self.node)
     }
 
-    fn apply(&mut self, input: &Input) -> Result<Received, NodeError> {
-        self.act(input.call())
+    fn apply(&mut self, input: &Input) -> Result<NodeAnswer, NodeError> {
+        self.answer(input.call())
+    }
+
+    fn is_still(answer: &NodeAnswer) -> bool {
+        answer.still
     }
 
     fn write(alloc: Global, input: &Input) -> Result<Vec<u8>, AllocError> {

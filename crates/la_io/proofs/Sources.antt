@@ -3,7 +3,9 @@ use Rattle.std.proofs.Common.{◌≡◌, ℕ, ◌<◌, Bool, true, false, ◌==�
 use Rattle.std.specs.Io.KnownBytes.{Consumes, IsAtEnd, prepend_known}
 use Rattle.std.proofs.KnownBytes.{Consumes-trans}
 use Rattle.std.proofs.lemmas.List.Elements.{All-append}
+use Rattle.std.proofs.lemmas.Bool.{false≢true}
 use Rattle.la_io.specs.declared.source.Next.{Next}
+use Rattle.la_io.specs.Limits.{is_too_long}
 use Rattle.la_io.specs.Sources.{IsOneLine, IsHeld, IsPart, IsNextLine, of_line, last_kind}
 
 -- bytes in front of what is ahead are taken
@@ -73,10 +75,14 @@ line_ends a left p q is_long long line line_after so takes =
     ended false line_after got kept one read =
         (subst IsOneLine (sym kept) one, subst (λ l. Consumes a (prepend_known q left) (l ++ 10 ∷ [])) (sym kept) read)
 
+some_in : (got : List ℕ) → is_too_long got ≡ true → 0 < length got
+some_in [] long = absurd (false≢true long)
+some_in (b ∷ got) long = omega arith
+
 -- the end of the input
 pub input_ends : (a b : Option (List ℕ)) (is_long : Bool) (line : List ℕ) → Gathers a b is_long line → IsAtEnd b
     → IsNextLine a b line (last_kind is_long line)
-input_ends a b true line so end = (so.got, omega (arith, so.kept), so.one, so.read, end)
+input_ends a b true line so end = (so.got, some_in so.got so.kept, so.one, so.read, end)
 input_ends a b false [] so end = (subst (Consumes a b) (sym so.kept) so.read, end)
 input_ends a b false (x ∷ line) so end = (so.got, subst (λ g. 0 < length g) so.kept (omega arith), so.one, so.read, end)
 

@@ -2,7 +2,7 @@
 use Rattle.std.specs.Prelude.{◌≡◌, ℕ, ◌<◌, ◌==◌, Bool, true, false, List, [], ◌∷◌, ◌++◌, length, take, drop, All, Option}
 use Rattle.std.specs.List.{list_any}
 use Rattle.std.specs.Io.KnownBytes.{Consumes, IsAtEnd, prepend_known}
-use Rattle.la_io.specs.declared.source.TheConstants.{MAX_LINE}
+use Rattle.la_io.specs.Limits.{is_too_long}
 use Rattle.la_io.specs.declared.source.Next.{Next}
 use Rattle.la_io.specs.declared.source.Next.TheVariants as next
 use Rattle.la_io.specs.declared.source.Source.{Source}
@@ -38,7 +38,7 @@ end_of false = []
 
 -- the line is kept while it is short
 abbrev pub IsHeld : (is_long : Bool) → (got line : List ℕ) → Type 0
-IsHeld true got line = MAX_LINE < length got
+IsHeld true got line = is_too_long got ≡ true
 IsHeld false got line = line ≡ got
 
 -- a part of a line was taken
@@ -62,7 +62,7 @@ last_kind false (b ∷ line) = next.Cut
 abbrev pub IsNextLine : (before after : Option (List ℕ)) → (line : List ℕ) → Next → Type 0
 IsNextLine before after line next.Line = IsOneLine line × Consumes before after (line ++ 10 ∷ [])
 IsNextLine before after line next.Long =
-    (long : List ℕ) × IsOneLine long × (MAX_LINE < length long) × Consumes before after (long ++ 10 ∷ [])
+    (long : List ℕ) × IsOneLine long × (is_too_long long ≡ true) × Consumes before after (long ++ 10 ∷ [])
 IsNextLine before after line next.Cut =
     (rest : List ℕ) × (0 < length rest) × IsOneLine rest × Consumes before after rest × IsAtEnd after
 IsNextLine before after line next.End = Consumes before after [] × IsAtEnd after

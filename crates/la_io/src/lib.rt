@@ -10,7 +10,7 @@ mod taking;
 mod writing;
 
 pub use listener::{Listener, tell_all};
-pub use source::{MAX_LINE, Next, Source, SourceFault};
+pub use source::{MAX_LINE, MAX_SET_LINE, Next, Source, SourceFault, limit_of};
 pub use streams::{
     InputFault, LIMIT, WriteFailed, flush, put_bytes, read_all, write_all, write_some,
 };

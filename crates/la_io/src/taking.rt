@@ -2,9 +2,11 @@
 ghost use Rattle.std.specs.Prelude.{◌≡◌, ◌+◌, ◌≤◌, ◌<◌, ◌++◌, ◌∷◌, List, ℕ, true, false, [], length, take, drop};
 ghost use Rattle.std.specs.Prelude.{Ok, IfOk, OnOk, OnErr};
 ghost use Rattle.std.specs.Io.KnownBytes.{Consumes, IsAtEnd};
+ghost use Rattle.la_io.specs.Limits.{is_too_long};
 ghost use Rattle.la_io.specs.Sources.{IsOneLine, IsHeld, IsPart, IsNextLine, TakesSome, pending, ahead, has_line, of_line, last_kind};
 
-use crate::{MAX_LINE, Next, Source, SourceFault};
+use crate::source::limit_of;
+use crate::{Next, Source, SourceFault};
 use std::alloc::{AllocError, Global};
 use std::io::Read;
 
@@ -27,12 +29,20 @@ fn first_end(bytes: &[u8]) -> (usize, usize, bool)
 
 // Puts bytes behind a line while it is not too long. Answers whether it is.
 fn add(line: &mut Vec<u8>, is_long: bool, part: &[u8]) -> Result<bool, AllocError>
-    requires { length line.old.items ≤ MAX_LINE }
+    requires { is_too_long line.old.items ≡ false }
     ensures kept { (got : List ℕ) → IsHeld is_long got line.old.items
         → IfOk result (λ long. IsHeld long (got ++ part.now) line.new.items) }
-    ensures short { length line.new.items ≤ MAX_LINE }
+    ensures short { is_too_long line.new.items ≡ false }
 {
-    if is_long || part.len() > MAX_LINE - line.len() {
+    if is_long {
+        return Ok(true);
+    }
+    let limit = if line.is_empty() {
+        limit_of(part)
+    } else {
+        limit_of(line)
+    };
+    if part.len() > limit - line.len() {
         return Ok(true);
     }
     line.extend_from_slice(part)?;

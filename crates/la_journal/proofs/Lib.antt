@@ -11,6 +11,7 @@ mod Moments
 mod StepsMore
 mod Takes
 mod Together
+mod Kept
 mod Digests
 mod RecordBytes
 mod Extents

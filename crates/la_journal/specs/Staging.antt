@@ -1,6 +1,8 @@
--- Why an input is not staged, and staged lines are not committed.
-use Rattle.std.specs.Prelude.{◌≡◌, ◌⊎◌, ℕ, ◌+◌, ◌<◌, Bool, true, false, not, ◌&&◌, List, [], ◌∷◌, length, Option, None}
+-- What is staged of a call, why an input is not staged, and why staged lines are not committed.
+use Rattle.std.specs.Prelude.{◌≡◌, ◌⊎◌, ℕ, ◌+◌, ◌<◌, Bool, true, false, not, ◌&&◌, List, [], ◌∷◌, ◌++◌, length, map}
+use Rattle.std.specs.Prelude.{Option, Some, None}
 use Rattle.la_journal.specs.Commits.{is_record}
+use Rattle.la_journal.specs.Machine.{steps}
 use Rattle.la_journal.specs.declared.staging.Unstaged.{Unstaged}
 use Rattle.la_journal.specs.declared.staging.Unstaged.TheVariants.{Machine, Memory, Closed}
 use Rattle.la_journal.specs.declared.staging.Uncommitted.{Uncommitted}
@@ -18,6 +20,22 @@ IsStageRefusal lacks_memory closed stepped Closed = closed ≡ true
 abbrev pub IsNotCommitted : (before now : Bool) → (faults_before faults : ℕ) → Uncommitted → Type 0
 IsNotCommitted before now faults_before faults Disk = (before ≡ false) × (now ≡ true) × (faults_before < faults)
 IsNotCommitted before now faults_before faults WasClosed = (before ≡ true) × (now ≡ true)
+
+-- What is kept of a call, be it the call or its line: nothing where it left the machine as it was.
+abbrev pub kept_unless : {X : Type 0} → (still : Bool) → X → List X
+kept_unless true call = []
+kept_unless false call = call ∷ []
+
+-- Calls lead to a state, and one more leads on from there: what is kept of them leads there too, and its lines are
+-- those that were kept.
+abbrev pub StagedCallsLead : {S C A : Type 0} (step : S → C → Option S) (answers : S → C → A) (still : A → Bool)
+    (text : C → List ℕ) → Type 0
+StagedCallsLead {S = S} {C = C} step answers still text =
+    (first state next : S) (calls : List C) (call : C) →
+    steps step calls first ≡ Some state → step state call ≡ Some next →
+    let it = still (answers state call) in
+    (steps step (calls ++ kept_unless it call) first ≡ Some next)
+    × (map text (calls ++ kept_unless it call) ≡ map text calls ++ kept_unless it (text call))
 
 -- no line of these begins as a record does
 abbrev pub are_no_records : List (List ℕ) → Bool

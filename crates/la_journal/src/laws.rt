@@ -1,8 +1,9 @@
-// What holds over a crash and a new start: laws over all disks and files, which no code runs.
+// What holds over a crash and a new start, and of staged lines: laws over all disks and files, which no code runs.
 ghost use Rattle.std.specs.Prelude.{◌≡◌, ◌++◌, ℕ, List, Some, take};
 ghost use Rattle.la_journal.specs.Disk.{LeavesOnly};
 ghost use Rattle.la_journal.specs.Machine.{state_after, steps, LeadsToSome};
 ghost use Rattle.la_journal.specs.Durable.{IsSameOr};
+ghost use Rattle.la_journal.specs.Staging.{StagedCallsLead};
 ghost use Rattle.la_journal.specs.Starts.{IsStart};
 ghost use Rattle.la_journal.specs.Lives.{LivesAreOneRun};
 ghost use Rattle.la_journal.specs.Commits.{ReadingGivesGroups, TornGroupsAreNotRead};
@@ -51,6 +52,12 @@ pub fn lives_follow_one_another<M: Machine>()
 /// each one's, with all that any of them answered.
 pub fn lives_are_one_run<M: Machine>()
     ensures { (start : M.State) → LivesAreOneRun (state_after M.head M.named_state M.named M.step start) M.step }
+{}
+
+/// Staged lines are of calls that lead to the machine's state. With what is kept of one call more, if anything, they
+/// are again, for a call of which nothing is kept has left that state as it was.
+pub fn staged_calls_lead<M: Machine>()
+    ensures { StagedCallsLead M.step M.answers M.still M.text }
 {}
 
 /// A journal whose groups each end in a record that repeats them: of groups that were put there and synced, and

@@ -1,5 +1,5 @@
 // A machine that changes by calls alone, each of which is a line of text.
-ghost use Rattle.std.specs.Prelude.{◌≡◌, ◌⊎◌, List, ℕ, Option, Some, None, IfOk, IfErr, OnOk, OnErr};
+ghost use Rattle.std.specs.Prelude.{◌≡◌, ◌⊎◌, List, ℕ, Bool, true, Option, Some, None, IfOk, IfErr, OnOk, OnErr};
 ghost use Rattle.la_journal.specs.Lines.{IsClean};
 ghost use Rattle.la_journal.specs.Journal.{IsCallLine};
 ghost use Rattle.la_journal.specs.Machine.{IsNamed, IsStateTaken};
@@ -34,6 +34,9 @@ pub trait Machine: Drop {
 
     ghost answers: { State → Call → Answer };
 
+    /// Whether a call that is answered so has left the machine as it was, for sure: then its line need not be kept.
+    ghost still: { Answer → Bool };
+
     /// A call as a line, and what a line asks.
     ghost text: { Call → List ℕ };
 
@@ -60,6 +63,11 @@ pub trait Machine: Drop {
         ensures refusal { IfErr result (λ refusal. lacks_memory refusal ⊎ (step (state self.old) (call input.now) ≡ None)) }
         ensures err { OnErr result (state self.new ≡ state self.old) };
 
+    /// Whether the call that was answered so has left the machine as it was, for sure. [`crate::Staged`] alone passes
+    /// the lines of such calls over: all else keeps each line.
+    fn is_still(output: &Self::Output) -> bool
+        ensures { result ≡ still (answer output.now) };
+
     /// The input's line, without the line's end.
     fn write(alloc: Global, input: &Self::Input) -> Result<Vec<u8>, AllocError>
         ensures { IfOk result (λ line. line.items ≡ text (call input.now)) };
@@ -77,6 +85,9 @@ pub trait Machine: Drop {
 
     /// A line has no line's end within, and no 0, and does not begin with `=`, as a state's does, or `~`, as a record's.
     ghost clean: { (c : Call) → IsCallLine (text c) };
+
+    /// A call that is answered as still is taken, and leaves the machine as it was.
+    ghost stays: { (s : State) (c : Call) → still (answers s c) ≡ true → step s c ≡ Some s };
 
     /// A head has no line's end within, and no 0.
     ghost clean_head: { (s : State) → IsClean (head s) };

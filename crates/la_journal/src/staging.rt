@@ -6,7 +6,7 @@ ghost use Rattle.la_journal.specs.Journal.{lines};
 ghost use Rattle.la_journal.specs.Records.{ended};
 ghost use Rattle.la_journal.specs.Machine.{state_after, steps, LeadsToSome};
 ghost use Rattle.la_journal.specs.Durable.{IsSettled};
-ghost use Rattle.la_journal.specs.Staging.{IsStageRefusal, IsNotCommitted, are_no_records, room_for};
+ghost use Rattle.la_journal.specs.Staging.{IsStageRefusal, IsNotCommitted, kept_unless, are_no_records, room_for};
 
 use crate::durable::encode;
 use crate::records::ROOM;
@@ -64,13 +64,16 @@ impl<M: Machine, D: Disk> Staged<M, D> {
         }
     }
 
-    /// Takes an input: its line is staged, and no byte of the file changes. Linear in the line.
+    /// Takes an input: its line is staged, and no byte of the file changes. A call that leaves the machine as it was,
+    /// as [`Machine::is_still`] says of its answer, is answered and not staged. Linear in the line.
     pub fn stage(
         &mut self,
         alloc: Global,
         input: &M::Input,
     ) -> Result<M::Output, Unstaged<M::Refusal>>
-        ensures staged { OnOk result ((ended self.new.text.items ≡ ended self.old.text.items ++ M.text (M.call input.now) ∷ [])
+        ensures staged { OnOk result ((ended self.new.text.items ≡ ended self.old.text.items
+            ++ kept_unless (M.still (M.answers (M.state self.old.durable.machine) (M.call input.now)))
+            (M.text (M.call input.now)))
             × (M.step (M.state self.old.durable.machine) (M.call input.now) ≡ Some (M.state self.new.durable.machine))) }
         ensures answer { IfOk result (λ output. M.answer output ≡ M.answers (M.state self.old.durable.machine) (M.call input.now)) }
         ensures err { OnErr result ((self.new.text.items ≡ self.old.text.items)
@@ -91,7 +94,9 @@ impl<M: Machine, D: Disk> Staged<M, D> {
         };
         match self.durable.machine.apply(input) {
             Ok(output) => {
-                let _there_is_room = self.text.extend_from_slice(&line);
+                if !M::is_still(&output) {
+                    let _there_is_room = self.text.extend_from_slice(&line);
+                }
                 Ok(output)
             }
             Err(refusal) => Err(Unstaged::Machine(refusal)),

@@ -4,3 +4,4 @@ pub mod Telling
 pub mod Told
 pub mod Stepping
 pub mod Tests
+pub mod Still

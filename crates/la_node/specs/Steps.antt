@@ -1,5 +1,5 @@
 -- A node's one step: what it gives out for a call that it accepts, and the replica after it.
-use Rattle.std.specs.Prelude.{◌≡◌, ◌⊎◌, ℕ, List, [], ◌∷◌, ◌++◌, map, fold, Option, Some, None, option_map, option_and_then, if◌then◌else◌}
+use Rattle.std.specs.Prelude.{◌≡◌, ◌⊎◌, ℕ, true, List, [], ◌∷◌, ◌++◌, map, fold, Option, Some, None, option_map, option_and_then, if◌then◌else◌}
 use Rattle.la_set.specs.declared.counts.Counts.{Counts}
 use Rattle.la_set.specs.Counts.{zero_counts}
 use Rattle.la_set.specs.Inclusion.{IsSubset}
@@ -14,6 +14,7 @@ use Rattle.la_replica.specs.Whole.{Out}
 use Rattle.la_replica.specs.Received.{received_in}
 use Rattle.la_replica.specs.Bases.{offered_by}
 use Rattle.la_replica.specs.ReplicaState.{ReplicaState, submits}
+use Rattle.la_replica.specs.Still.{has_grown, is_still}
 use Rattle.la_replica.specs.declared.error.ReplicaError.{ReplicaError}
 use Rattle.la_replica.specs.declared.error.ReplicaError.TheVariants as replica
 use Rattle.la_replica.specs.Refusals.{IsSubmitRefusal, IsReceiptRefusal}
@@ -110,6 +111,12 @@ KeptListsArePlayedAgain = (r s : ReplicaState) (calls more : List NodeCall) →
 abbrev pub StepViewsGrow : Type 0
 StepViewsGrow = (r after : ReplicaState) (call : NodeCall) →
     after_call r call ≡ Some after → IsSubset r.view after.view
+
+-- a message of which something still is said leaves the replica as it was
+abbrev pub StillMessagesChangeNothing : Type 0
+StillMessagesChangeNothing = (r after : ReplicaState) (m : code.Message) (given : Given) →
+    node_step r (Received m) ≡ Some (given, after) →
+    is_still (has_grown r after m.instance) given.said ≡ true → after ≡ r
 
 -- where a call is refused it has no step, or there was no memory
 abbrev pub IsNoStep : ReplicaState → NodeCall → (lacks_memory : Type 0) → Type 0

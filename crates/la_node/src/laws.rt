@@ -1,6 +1,6 @@
 // What holds of a node's steps: laws over the definitions, which no code runs.
 ghost use Rattle.la_node.specs.Steps.{KeptListsLeadOn, KeptListsArePlayedAgain, StepViewsGrow};
-ghost use Rattle.la_node.specs.Steps.{RefusedCallsAreNoSteps};
+ghost use Rattle.la_node.specs.Steps.{RefusedCallsAreNoSteps, StillMessagesChangeNothing};
 
 /// Where a list of accepted calls leads from a new replica to a node's, the list with the next call
 /// that the node accepts leads to its replica then.
@@ -17,6 +17,13 @@ pub fn kept_lists_are_played_again()
 /// No step makes the view smaller.
 pub fn views_grow()
     ensures { StepViewsGrow }
+{}
+
+/// A message leaves the replica as it was where what is said of it, and whether more is accepted in its
+/// instance than before, say so ([`Said::is_still`](la_replica::Said::is_still)): a list of accepted calls
+/// leads to the same replica without it.
+pub fn still_messages_change_nothing()
+    ensures { StillMessagesChangeNothing }
 {}
 
 /// A call that a node refuses, but for want of memory, has no step: so the calls that it accepts where there is

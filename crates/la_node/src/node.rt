@@ -13,7 +13,8 @@ ghost use Rattle.la_replica.specs.Whole.{whole_mail};
 ghost use Rattle.la_replica.specs.Received.{IsSeenWithin};
 ghost use Rattle.la_replica.specs.Parcels.{unwrapped_in, UnwrapsIn, IsParcelRefusal};
 ghost use Rattle.la_replica.specs.Bases.{AreToldIn};
-ghost use Rattle.la_replica.specs.ReplicaState.{last_learnt, submitted_in, update_cap, commits_of};
+ghost use Rattle.la_replica.specs.ReplicaState.{last_learnt, accepted_in, submitted_in};
+ghost use Rattle.la_replica.specs.ReplicaState.{update_cap, commits_of};
 ghost use Rattle.la_replica.specs.Refusals.{IsSubmitRefusal, IsReceiptRefusal};
 ghost use Rattle.la_replica.specs.Steps.{learnt_in};
 ghost use Rattle.la_replica.specs.Refusals.{HasRoom, SubmittingSpares};
@@ -167,6 +168,13 @@ impl<B: Replicated> Node<B> {
         ensures { option_copied result ≡ last_learnt self.now.replica instance }
     {
         self.replica.last_learnt(instance)
+    }
+
+    /// What it has accepted in an instance; `None` where there is no such instance.
+    pub fn accepted(&self, instance: u8) -> Option<&UpdateSet>
+        ensures { option_copied result ≡ accepted_in self.now.replica instance }
+    {
+        self.replica.accepted(instance)
     }
 
     /// How much it has submitted in an instance; `None` where there is no such instance.

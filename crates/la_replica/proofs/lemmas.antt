@@ -1,5 +1,6 @@
 pub mod Furthering
 pub mod Growing
+pub mod Still
 pub mod Carrying
 pub mod Alike
 pub mod Rebasing

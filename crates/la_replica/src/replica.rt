@@ -13,7 +13,7 @@ ghost use Rattle.la_replica.specs.Received.{made_at, IsLentIn, IsNotToldIn, IsKn
 ghost use Rattle.la_replica.specs.Received.{IsToldWithin, IsSeenWithin};
 ghost use Rattle.la_replica.specs.Bases.{offered_by, AreToldIn, AreToldFrom};
 ghost use Rattle.la_replica.specs.ReplicaState.{ReplicaState, start, submits, receives, sender_of};
-ghost use Rattle.la_replica.specs.ReplicaState.{last_learnt, submitted_in, InInstance};
+ghost use Rattle.la_replica.specs.ReplicaState.{last_learnt, accepted_in, submitted_in, InInstance};
 ghost use Rattle.la_replica.specs.ReplicaState.{update_cap, commits_of};
 ghost use Rattle.la_replica.specs.Invariant.{IsReplicaState};
 ghost use Rattle.la_replica.specs.Refusals.{IsSubmitRefusal, IsReceiveRefusal, IsReceiptRefusal};
@@ -175,6 +175,14 @@ impl Replica {
     {
         let learnt = self.instances.get(instance as usize)?.learnt.as_ref()?;
         Some(&learnt.updates)
+    }
+
+    /// What it has accepted in an instance; `None` where there is no such instance.
+    pub fn accepted(&self, instance: u8) -> Option<&UpdateSet>
+        ensures { option_copied result ≡ accepted_in self.now instance }
+    {
+        let at = self.instances.get(instance as usize)?;
+        Some(at.acceptor.accepted())
     }
 
     /// How many updates it has submitted in an instance; `None` where there is no such instance.

@@ -1,5 +1,7 @@
 -- Lines that are taken one after another, what they come to held back, and then written.
-use Rattle.std.proofs.Common.{◌≡◌, ℕ, ◌+◌, ◌≤◌, List, [], ◌∷◌, ◌++◌, length, take, drop, refl, sym, subst, ap, ◌∙◌, arith, append_assoc, append-nil, take-append-drop, length-append, Option, Some, None, inl, inr}
+use Rattle.std.proofs.Common.{◌≡◌, ℕ, ◌+◌, ◌≤◌, List, [], ◌∷◌, ◌++◌, length, take, drop, refl, sym, subst, ap, ◌∙◌}
+use Rattle.std.proofs.Common.{arith, append_assoc, append-nil, take-append-drop, length-append, Option, Some, None}
+use Rattle.std.proofs.Common.{inl, inr}
 use Rattle.std.specs.Prelude.{⊤, ◌⊎◌}
 use Rattle.std.specs.Io.KnownBytes.{Appends, Consumes, IsAtEnd, prepend_known}
 use Rattle.std.proofs.KnownBytes.{Appends-nil, Appends-trans, Appends-kept, Consumes-nil}
@@ -26,10 +28,13 @@ use Rattle.la_io.proofs.lemmas.TellingOn.{tells_on}
 use Rattle.la_serve.specs.declared.error.NodeFault.{NodeFault}
 use Rattle.la_serve.specs.declared.error.NodeFault.TheVariants as fault
 use Rattle.la_serve.specs.Io.{Io, Facts, Waiting}
-use Rattle.la_serve.specs.Turns.{Turn, IsTurn}
-use Rattle.la_serve.specs.Serving.{AreTurns, IsTurnStep, TakesLine, TakesCut, TakesNone, InputEnds, IsStepRefusal, of_step, ServesAll, ServesSome, ServesClosed, IsServeRefusal, turn_lines, written, kept_lines, turns_told, cut_told}
+use Rattle.la_serve.specs.Turns.{Turn, ServerState, IsTurn}
+use Rattle.la_serve.specs.Serving.{AreTurns, IsTurnStep, TakesLine, TakesCut, TakesNone, InputEnds, IsStepRefusal}
+use Rattle.la_serve.specs.Serving.{of_step, ServesAll, ServesSome, ServesClosed, IsServeRefusal, turn_lines, written}
+use Rattle.la_serve.specs.Serving.{kept_lines, turns_told, cut_told}
 use Rattle.la_serve.specs.Giving.{gives}
-use Rattle.la_serve.specs.Crashes.{AreTextsOf, AreFrontsOf, Leaves, Commits, CommitsSome, Flushes, GivesNothing, FlushesNot}
+use Rattle.la_serve.specs.Crashes.{AreTextsOf, AreFrontsOf, Leaves, Commits, CommitsSome, Flushes, GivesNothing}
+use Rattle.la_serve.specs.Crashes.{FlushesNot}
 use Rattle.la_serve.proofs.Turning.{turns_snoc, turns_join}
 use Rattle.la_serve.proofs.Leading.{Led, turns_lead}
 use Rattle.la_serve.proofs.Crashing.{CrashSo, crash_none, crash_more, crash_some, crash_all}
@@ -38,7 +43,7 @@ use Rattle.la_replica.specs.ReplicaState.{ReplicaState}
 -- where the loop stands: what is ahead and in the output, what is held back and staged
 pub record Point (D E : Type 0) : Type 0 where
   pub objects : List (ℕ × Kind)
-  pub state : ReplicaState
+  pub state : ServerState
   pub ahead : Option (List ℕ)
   pub out : Option (List ℕ)
   pub held : List ℕ
@@ -90,11 +95,12 @@ module _ {D R W E : Type 0} (f : Facts D R W E) (first : Point D E) where
       record { objects = p.objects; state = p.state; left = left; out = p.out; journal = lines (f.seen p.disk) }
 
   abbrev pub Left : Point D E → (turns last : List Turn) → Type 0
-  Left p = Leaves f.seen f.may_leave f.moment f.left_since first.state first.disk p.disk first.given p.given
+  Left p = Leaves f.seen f.may_leave f.moment f.left_since first.state.kept first.disk p.disk first.given p.given
 
-  abbrev Crash : (between : ReplicaState) (d : D) (given : List GivenAt) (done : List Turn) → Type 0
+  abbrev Crash : (between : ServerState) (d : D) (given : List GivenAt) (done : List Turn) → Type 0
   Crash between d given done =
-      CrashSo f.seen f.may_leave f.moment f.left_since AreTextsOf first.state between first.disk d first.given given
+      CrashSo f.seen f.may_leave f.moment f.left_since AreTextsOf first.state.kept between.kept first.disk d
+      first.given given
       done
 
   abbrev pub Flushed : (p q : Point D E) → Type 0
@@ -108,7 +114,7 @@ module _ {D R W E : Type 0} (f : Facts D R W E) (first : Point D E) where
     pub done : List Turn
     pub group : List Turn
     -- the state after the first ones
-    pub between : ReplicaState
+    pub between : ServerState
     pub are_done : AreTurns first.objects first.state 1 done between
     pub are_group : AreTurns first.objects between (1 + length done) group p.state
     pub count : number ≡ 1 + length (done ++ group)
@@ -124,7 +130,7 @@ module _ {D R W E : Type 0} (f : Facts D R W E) (first : Point D E) where
   pub record CutSo (left : Option (List ℕ)) (p : Point D E) (more : List ℕ) : Type 0 where
     pub done : List Turn
     pub group : List Turn
-    pub between : ReplicaState
+    pub between : ServerState
     pub are_done : AreTurns first.objects first.state 1 done between
     pub are_group : AreTurns first.objects between (1 + length done) group p.state
     pub read : ReadsFront first.ahead left (turn_lines (done ++ group))
@@ -157,7 +163,8 @@ module _ {D R W E : Type 0} (f : Facts D R W E) (first : Point D E) where
     journal = sym (append-nil (lines (f.seen first.disk)));
     stages = ap ended unstaged;
     tells = refl;
-    crash = crash_none f.seen f.may_leave f.moment f.left_since first.state first.disk first.given settled only_now;
+    crash = crash_none f.seen f.may_leave f.moment f.left_since first.state.kept first.disk first.given settled
+        only_now;
   }
 
   -- ## A step
@@ -405,8 +412,8 @@ module _ {D R W E : Type 0} (f : Facts D R W E) (first : Point D E) where
               (sym errors)
               (subst (λ ts. TellsAll f.heard f.refuses first.errors p.errors (turns_told ts)) (sym nil) so.tells);
           crash =
-              crash_more f.seen f.may_leave f.moment f.left_since follow first.state so.between p.state first.disk
-              p.disk q.disk first.given p.given so.done so.group p.text so.crash
+              crash_more f.seen f.may_leave f.moment f.left_since follow first.state.kept so.between.kept p.state.kept
+              first.disk p.disk q.disk first.given p.given so.done so.group p.text so.crash
               (turns_lead first.objects so.between (1 + length so.done) so.group p.state so.are_group) so.stages w.some
               AreTextsOf p.held q.given w.given (λ groups given are. (so.holds, are)) only_now w.commits;
         }
@@ -418,7 +425,7 @@ module _ {D R W E : Type 0} (f : Facts D R W E) (first : Point D E) where
       abbrev Told : List (List ℕ) → Type 0
       Told = TellsAll f.heard f.refuses first.errors p.errors
 
-      led : Led so.between p.state so.group
+      led : Led so.between.kept p.state.kept so.group
       led = turns_lead first.objects so.between (1 + length so.done) so.group p.state so.are_group
 
       are_all : AreTurns first.objects first.state 1 (so.done ++ so.group) p.state
@@ -430,10 +437,13 @@ module _ {D R W E : Type 0} (f : Facts D R W E) (first : Point D E) where
       pub safe : Commits f.seen f.may_leave p.text p.disk q.disk → q.given ≡ gives f.moment q.disk p.held p.given
           → Left q (so.done ++ so.group) []
       safe all gave =
-          crash_all f.seen f.may_leave f.moment f.left_since first.state p.state first.disk q.disk first.given q.given
+          crash_all f.seen f.may_leave f.moment f.left_since first.state.kept p.state.kept first.disk q.disk
+          first.given q.given
           (so.done ++ so.group)
-          (crash_more f.seen f.may_leave f.moment f.left_since follow first.state so.between p.state first.disk p.disk
-          q.disk first.given p.given so.done so.group p.text so.crash led so.stages some AreFrontsOf p.held q.given gave
+          (crash_more f.seen f.may_leave f.moment f.left_since follow first.state.kept so.between.kept p.state.kept
+          first.disk
+          p.disk q.disk first.given p.given so.done so.group p.text so.crash led so.stages some AreFrontsOf p.held
+          q.given gave
           (λ groups given are. ((more, so.holds), are)) only_now all) all.settled
 
       pub journal_is : Commits f.seen f.may_leave p.text p.disk q.disk
@@ -496,10 +506,11 @@ module _ {D R W E : Type 0} (f : Facts D R W E) (first : Point D E) where
           left =
               subst
               (λ g.
-              Leaves f.seen f.may_leave f.moment f.left_since first.state first.disk q.disk first.given g so.done
+              Leaves f.seen f.may_leave f.moment f.left_since first.state.kept first.disk q.disk first.given g so.done
               so.group)
               (sym none.given)
-              (crash_some f.seen f.may_leave f.moment f.left_since follow first.state so.between p.state first.disk
+              (crash_some f.seen f.may_leave f.moment f.left_since follow first.state.kept so.between.kept
+              p.state.kept first.disk
               p.disk q.disk first.given p.given so.done so.group p.text so.crash led so.stages some counts_now);
         }
 

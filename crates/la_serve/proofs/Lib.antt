@@ -11,6 +11,8 @@ pub mod Points
 pub mod OneLine
 pub mod Stepping
 pub mod Starts
+pub mod TurnKinds
 pub mod Leading
 pub mod Crashing
 pub mod Lives
+pub mod Processes

@@ -1,5 +1,7 @@
 -- Nodes that are killed at any moment.
-use Rattle.std.proofs.Common.{◌≡◌, ◌⊎◌, inl, inr, ℕ, zero, suc, ◌+◌, ◌-◌, ◌≤◌, List, [], ◌∷◌, ◌++◌, Option, Some, None, length, map, take, drop, option_map, refl, sym, ◌∙◌, ap, subst, arith, append_assoc, take-append-drop}
+use Rattle.std.proofs.Common.{◌≡◌, ◌⊎◌, inl, inr, ℕ, zero, suc, ◌+◌, ◌-◌, ◌≤◌, List, [], ◌∷◌, ◌++◌, Option, Some}
+use Rattle.std.proofs.Common.{None, length, map, take, drop, option_map, refl, sym, ◌∙◌, ap, subst, arith}
+use Rattle.std.proofs.Common.{append_assoc, take-append-drop}
 use Rattle.std.proofs.Math.Seq.{take-append-add}
 use Rattle.std.proofs.lemmas.List.{length-append, map-append, take_at}
 use Rattle.std.proofs.lemmas.Grind.{flat_map-append}
@@ -13,7 +15,7 @@ use Rattle.la_wire.specs.CallLines.{named_call}
 use Rattle.la_durable.specs.CallLines.{CallLine}
 use Rattle.la_durable.specs.Nodes.{acts_by, step}
 use Rattle.la_durable.specs.Restarts.{leads_from}
-use Rattle.la_serve.specs.Turns.{Turn}
+use Rattle.la_serve.specs.Turns.{Turn, ServerState}
 use Rattle.la_serve.specs.Serving.{AreTurns, kept_lines}
 use Rattle.la_serve.specs.Crashes.{in_order, kept_count, KeepsGiven}
 use Rattle.la_serve.specs.Lives.{GoesOn, KilledNodesGoOn, KilledBehind, IsNodeLife, AreNodeLives, NodeLivesAreOneRun}
@@ -67,17 +69,18 @@ module _ (leads : List ℕ → Option ReplicaState) (all : List CallLine) (n the
 
 -- ## Where a killed node goes on
 
-module _ (now : ℕ) (left_since : ℕ → List ℕ → Type 0) (start n : ReplicaState) (objects : List (ℕ × Kind))
-    (all : List CallLine) where
+module _ (now : ℕ) (left_since : ℕ → List ℕ → Type 0) (start : ReplicaState) (n : ServerState)
+    (objects : List (ℕ × Kind)) (all : List CallLine) where
   pub goes : (groups : List (List Turn)) (given : List GivenAt) (more : List (List ℕ))
       → texts all ≡ kept_lines (in_order groups) ++ more
-      → KeepsGiven now left_since (leads_from start) all n groups given
+      → KeepsGiven now left_since (leads_from start) all n.kept groups given
       → GoesOn left_since start objects all n groups given
   goes [] given more is keeps = tt
   goes (group ∷ before) [] more is keeps = tt
   goes (group ∷ before) (g ∷ given) more is keeps = (
     λ then c are left.
-        behind_these (leads_from start) all n then (kept_count (group ∷ before)) (reached then are) c (keeps.1 c left),
+        behind_these (leads_from start) all n.kept then.kept (kept_count (group ∷ before)) (reached then are) c
+        (keeps.1 c left),
     goes before given (kept_lines group ++ more)
         (is
         ∙ ap (λ (l : List (List ℕ)). l ++ more) (flat_map-append (λ (t : Turn). t.kept) (in_order before) group)
@@ -85,15 +88,15 @@ module _ (now : ℕ) (left_since : ℕ → List ℕ → Type 0) (start n : Repli
         keeps.2,
   )
     where
-      reached : (then : ReplicaState) → AreTurns objects n 1 (in_order (group ∷ before)) then
-          → steps step (take (kept_count (group ∷ before)) all) n ≡ Some then
+      reached : (then : ServerState) → AreTurns objects n 1 (in_order (group ∷ before)) then
+          → steps step (take (kept_count (group ∷ before)) all) n.kept ≡ Some then.kept
       reached then are =
           let k = kept_count (group ∷ before) in
           let led = turns_lead objects n 1 (in_order (group ∷ before)) then are in
-          by_lines (take k all) (Some n)
-          ∙ ap (λ (l : List (List ℕ)). steps_from by_line l (Some n))
+          by_lines (take k all) (Some n.kept)
+          ∙ ap (λ (l : List (List ℕ)). steps_from by_line l (Some n.kept))
           (take_texts k all ∙ ap (take k) is ∙ take_at (kept_lines (in_order (group ∷ before))) more k refl ∙ led.lines)
-          ∙ sym (by_lines led.calls (Some n)) ∙ led.led
+          ∙ sym (by_lines led.calls (Some n.kept)) ∙ led.led
 
 module _ {D : Type 0} (seen : D → List ℕ) (may_leave : D → List ℕ → Type 0) (moment : D → ℕ)
     (left_since : D → ℕ → List ℕ → Type 0) where

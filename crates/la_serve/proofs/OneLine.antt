@@ -1,9 +1,9 @@
 -- A line's turn, by what became of it.
-use Rattle.std.proofs.Common.{◌≡◌, ℕ, ◌≤◌, true, false, List, [], length, codes, refl, sym, subst, ap, ◌∙◌}
+use Rattle.std.proofs.Common.{◌≡◌, ℕ, true, false, List, [], codes, refl, sym, subst, ap, ◌∙◌}
 use Rattle.std.proofs.Common.{append-nil, Option, Some, Result, OnOk, IfErr}
 use Rattle.std.specs.Io.KnownBytes.{Appends}
 use Rattle.std.proofs.KnownBytes.{Appends-nil}
-use Rattle.la_io.specs.declared.source.TheConstants.{MAX_LINE}
+use Rattle.la_io.specs.Limits.{is_too_long}
 use Rattle.la_wire.specs.declared.error.LineFault.{LineFault}
 use Rattle.la_wire.specs.declared.error.LineError.TheVariants.{Fault}
 use Rattle.la_wire.specs.Calls.{called}
@@ -14,23 +14,23 @@ use Rattle.la_wire.specs.Notes.{refused_note, line_fault_line}
 use Rattle.la_io.specs.Streams.{TellsLine, TellsAll}
 use Rattle.la_serve.specs.declared.error.NodeFault.{NodeFault}
 use Rattle.la_serve.specs.Io.{Io}
-use Rattle.la_serve.specs.Turns.{Turn, faulty, own_of, is_note, is_elsewhere, IsCallTurn}
+use Rattle.la_serve.specs.Turns.{Turn, faulty, own_of, is_note, is_elsewhere, IsTurnOf, IsCallTurn}
 use Rattle.la_serve.specs.Serving.{OfLine, OfCall, TakesBy, TakesLine, Breaks, TellsNoLine}
 use Rattle.la_serve.proofs.Taking.{takes_only, takes_more, on_ok_more, if_err_more}
 use Rattle.la_serve.proofs.Turns.{note_turn, fault_turn, starved_turn, call_turn, passed_turn}
 
 -- a call that is passed over
 pub call_passed : (input : InputState) (k : ℕ) (io : Io)
-    → is_elsewhere io.state (called input.call) ≡ true
-    → TakesLine (OfCall input IsCallTurn k) TellsNoLine io io
+    → is_elsewhere io.state.kept (called input.call) ≡ true
+    → TakesLine (OfCall input IsTurnOf k) TellsNoLine io io
 call_passed input k io is =
-    takes_only Appends (OfCall input IsCallTurn k) io io input.line []
+    takes_only Appends (OfCall input IsTurnOf k) io io input.line []
     (refl, passed_turn io.objects io.state k input.line (called input.call) true refl is) refl refl (Appends-nil io.out)
 
 -- ## A line
 
 module _ {E : Type 0} (heard : E → Option (List ℕ)) (refuses : E → List ℕ → E → Type 0) (k : ℕ) (line : List ℕ)
-    (le : length line ≤ MAX_LINE) (before : Io) (e1 : E) where
+    (le : is_too_long line ≡ false) (before : Io) (e1 : E) where
   tells_none : (told : List (List ℕ)) → told ≡ [] → TellsAll heard refuses e1 e1 told
   tells_none told is = subst (TellsAll heard refuses e1 e1) (sym is) refl
 

@@ -72,6 +72,9 @@ commits_rule = filled (option (codes "commits") 0 16 (codes "0"))
 abbrev cap_rule : Rule
 cap_rule = filled (option (codes "cap") 1 1000000 (codes "1000000"))
 
+abbrev tick_rule : Rule
+tick_rule = filled (option (codes "tick") 0 3600 (codes "0"))
+
 abbrev journal_rule : Rule
 journal_rule = filled journal_option
 
@@ -88,7 +91,13 @@ replicas_alone = (
       inr (refl, refl, λ e. no e),
       (
         inr (refl, refl, λ e. no e),
-        (inr (refl, refl, λ e. no e), (inr (refl, refl, λ e. no e), (inl refl, (inl refl, tt)))),
+        (
+          inr (refl, refl, λ e. no e),
+          (
+            inr (refl, refl, λ e. no e),
+            (inr (refl, refl, λ e. no e), (inl refl, (inl refl, tt))),
+          ),
+        ),
       ),
     ),
   ),
@@ -104,7 +113,13 @@ own_alone = (
       inr (refl, refl, λ e. no e),
       (
         inr (refl, refl, λ e. no e),
-        (inr (refl, refl, λ e. no e), (inr (refl, refl, λ e. no e), (inl refl, (inl refl, tt)))),
+        (
+          inr (refl, refl, λ e. no e),
+          (
+            inr (refl, refl, λ e. no e),
+            (inr (refl, refl, λ e. no e), (inl refl, (inl refl, tt))),
+          ),
+        ),
       ),
     ),
   ),
@@ -120,7 +135,13 @@ commits_alone = (
       inr (refl, refl, λ e. refl),
       (
         inr (refl, refl, λ e. no e),
-        (inr (refl, refl, λ e. no e), (inr (refl, refl, λ e. no e), (inl refl, (inl refl, tt)))),
+        (
+          inr (refl, refl, λ e. no e),
+          (
+            inr (refl, refl, λ e. no e),
+            (inr (refl, refl, λ e. no e), (inl refl, (inl refl, tt))),
+          ),
+        ),
       ),
     ),
   ),
@@ -136,7 +157,35 @@ cap_alone = (
       inr (refl, refl, λ e. no e),
       (
         inr (refl, refl, λ e. refl),
-        (inr (refl, refl, λ e. no e), (inr (refl, refl, λ e. no e), (inl refl, (inl refl, tt)))),
+        (
+          inr (refl, refl, λ e. no e),
+          (
+            inr (refl, refl, λ e. no e),
+            (inr (refl, refl, λ e. no e), (inl refl, (inl refl, tt))),
+          ),
+        ),
+      ),
+    ),
+  ),
+)
+
+tick_alone : AllOne tick_rule rules
+unfolding clap_on_literals
+tick_alone = (
+  inr (refl, refl, λ e. no e),
+  (
+    inr (refl, refl, λ e. no e),
+    (
+      inr (refl, refl, λ e. no e),
+      (
+        inr (refl, refl, λ e. no e),
+        (
+          inr (refl, refl, λ e. refl),
+          (
+            inr (refl, refl, λ e. no e),
+            (inr (refl, refl, λ e. no e), (inl refl, (inl refl, tt))),
+          ),
+        ),
       ),
     ),
   ),
@@ -152,7 +201,13 @@ journal_alone = (
       inr (refl, refl, λ e. no e),
       (
         inr (refl, refl, λ e. no e),
-        (inr (refl, refl, λ e. no e), (inr (refl, refl, λ e. refl), (inl refl, (inl refl, tt)))),
+        (
+          inr (refl, refl, λ e. no e),
+          (
+            inr (refl, refl, λ e. no e),
+            (inr (refl, refl, λ e. refl), (inl refl, (inl refl, tt))),
+          ),
+        ),
       ),
     ),
   ),
@@ -226,6 +281,9 @@ module _ (words : List Text) (faultless : level_fault shape [] nothing_held word
       let cap = level_reads cap_rule shape [] words false [] cap_alone
       (defaults_there cap_rule (codes "1000000") [] (replicas_rule ∷ own_rule ∷ commits_rule ∷ []) (drop 4 rules) start
       refl refl) faultless in
+      let tick = level_reads tick_rule shape [] words false [] tick_alone
+      (defaults_there tick_rule (codes "0") [] (replicas_rule ∷ own_rule ∷ commits_rule ∷ cap_rule ∷ []) (drop 5 rules)
+      start refl refl) faultless in
       let journal_option = level_reads journal_rule shape [] words false [] journal_alone
       (given_there (codes "journal") rows (not_false _ both_given.1)) faultless in
       record {
@@ -233,6 +291,7 @@ module _ (words : List Text) (faultless : level_fault shape [] nothing_held word
         own = record { text = own.0; given = own.1; passed = own.2 };
         commits = record { text = commits.0; given = commits.1; passed = commits.2 };
         cap = record { text = cap.0; given = cap.1; passed = cap.2 };
+        tick = record { text = tick.0; given = tick.1; passed = tick.2 };
         journal = (_, journal_option.1);
       }
 

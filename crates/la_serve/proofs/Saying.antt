@@ -1,5 +1,6 @@
 -- A turn by what is written of its line, where the journal does not gain it.
-use Rattle.std.proofs.Common.{◌≡◌, ◌↔◌, IsTrue, ℕ, Bool, true, false, ◌&&◌, [], List, take, get_or, ◌+◌, slice_get}
+use Rattle.std.proofs.Common.{◌≡◌, ◌↔◌, IsTrue, ℕ, Bool, true, false, ◌&&◌, [], List, append-nil, filter, take}
+use Rattle.std.proofs.Common.{get_or, ◌+◌, slice_get}
 use Rattle.std.proofs.Common.{Some, Option, refl, sym, ap, subst, ◌∙◌, inl, inr}
 use Rattle.std.specs.List.{list_all}
 use Rattle.std.specs.Io.KnownBytes.{Appends}
@@ -14,6 +15,12 @@ use Rattle.la_set.specs.Counts.{counts_of, HasCounts}
 use Rattle.la_node.specs.declared.link.Standing.{Standing}
 use Rattle.la_node.specs.Accepting.{has_counts}
 use Rattle.la_node.proofs.lemmas.Tests.{decides-has_counts}
+use Rattle.la_node.specs.Links.{letters_of, is_owed}
+use Rattle.la_replica.specs.declared.message.Message as code
+use Rattle.la_replica.specs.Again.{again}
+use Rattle.la_replica.specs.Bases.{AreToldIn}
+use Rattle.la_replica.specs.Whole.{whole_mail}
+use Rattle.la_wire.specs.Notes.{letters_text}
 use Rattle.la_object.specs.declared.kind.Kind.{Kind}
 use Rattle.la_object.specs.declared.query.Query.{Query}
 use Rattle.la_wire.specs.Calls.{WireCall, Ask, Tick, Receive, Known, called}
@@ -22,38 +29,30 @@ use Rattle.la_durable.specs.Inputs.{InputState}
 use Rattle.la_serve.specs.declared.said.Said.{Said}
 use Rattle.la_serve.specs.declared.said.Said.TheVariants as said
 use Rattle.la_serve.specs.Io.{Io}
-use Rattle.la_serve.specs.Turns.{Turn, OneOf, IsKeptTurn, IsToldBack, is_stale, is_reached, is_told_known}
-use Rattle.la_serve.specs.Turns.{only_writes, own_of, question_answered, IsAnsweredTurn, IsTicked, IsTurnHere}
+use Rattle.la_serve.specs.Turns.{Turn, ServerState, OneOf, IsKeptTurn, IsToldBack, is_stale, is_reached, is_told_known}
+use Rattle.la_serve.specs.Turns.{only_writes, only_sends, own_of, question_answered, IsAnsweredTurn, IsTurnHere}
 use Rattle.la_serve.specs.Said.{said_text, IsSaidAnswer, answer_by, IsSaidAgain, IsSaidBack}
 use Rattle.la_serve.specs.Serving.{OfCall, TakesBy, TakesLine, TellsNoLine}
 use Rattle.la_serve.proofs.Taking.{takes_only}
-use Rattle.la_replica.specs.ReplicaState.{ReplicaState}
 
-pub is_answered : (objects : List (ℕ × Kind)) (n : ReplicaState) (k object : ℕ) (query : Query) (line : List ℕ)
+pub is_answered : (objects : List (ℕ × Kind)) (n : ServerState) (k object : ℕ) (query : Query) (line : List ℕ)
     (s : Said)
-    → IsSaidAnswer (own_of n) object (answer_by objects n object query) s
+    → IsSaidAnswer (own_of n) object (answer_by objects n.kept object query) s
     → IsAnsweredTurn objects n k object query (only_writes n line (said_text (own_of n) k s))
 is_answered objects n k object query line (said.Lines text) is =
     inl (ap (only_writes n line) is.2 ∙ ap (question_answered n k object line) (sym is.1))
 is_answered objects n k object query line said.NoSuchObject is = inl (ap (question_answered n k object line) (sym is))
 is_answered objects n k object query line said.Memory is = inr refl
 
-pub is_ticked : (n : ReplicaState) (k : ℕ) (line : List ℕ) (s : Said) → IsSaidAgain n s
-    → IsTicked n k (only_writes n line (said_text (own_of n) k s))
-is_ticked n k line (said.Lines text) is =
-    inl (record { mail = is.0; whole = is.1; over = is.2; known = is.3; turn = ap (only_writes n line) is.4 })
-is_ticked n k line said.NoSuchObject is = absurd is
-is_ticked n k line said.Memory is = inr refl
-
-pub is_told_back : (n : ReplicaState) (k from : ℕ) (line : List ℕ) (s : Said) → IsSaidBack n from s
+pub is_told_back : (n : ServerState) (k from : ℕ) (line : List ℕ) (s : Said) → IsSaidBack n.kept from s
     → IsToldBack n k from (only_writes n line (said_text (own_of n) k s))
 is_told_back n k from line (said.Lines text) is = inl (ap (only_writes n line) is)
 is_told_back n k from line said.NoSuchObject is = absurd is
 is_told_back n k from line said.Memory is = inr refl
 
 -- of a letter that brings no news
-is_received : (n : ReplicaState) (k : ℕ) (m : WireMessage) (t : Turn) (b : Bool) → is_stale n m ≡ b → b ≡ true
-    → IsToldBack n k m.from t → OneOf (is_stale n m) (IsToldBack n k m.from t) (IsKeptTurn n k (Receive m) t)
+is_received : (n : ServerState) (k : ℕ) (m : WireMessage) (t : Turn) (b : Bool) → is_stale n.kept m ≡ b → b ≡ true
+    → IsToldBack n k m.from t → OneOf (is_stale n.kept m) (IsToldBack n k m.from t) (IsKeptTurn n k (Receive m) t)
 is_received n k m t b is stale back =
     subst (λ z. OneOf z (IsToldBack n k m.from t) (IsKeptTurn n k (Receive m) t)) (sym (is ∙ stale)) back
 
@@ -76,22 +75,52 @@ module _ (Wrote : (before after : Option (List ℕ)) → List ℕ → Type 0) (k
       same still (subst (λ (o : ℕ). Wrote before.out after.out (said_text o k s)) is_own w)
 
   pub ask_taken : (replica object : ℕ) (query : Query) → called input.call ≡ Ask replica object query
-      → IsSaidAnswer (own_of before.state) object (answer_by before.objects before.state object query) s
+      → IsSaidAnswer (own_of before.state) object (answer_by before.objects before.state.kept object query) s
       → TakesBy Wrote (OfCall input IsTurnHere k) TellsNoLine before after
   ask_taken replica object query e is =
       said_taken (Ask replica object query) e
       (is_answered before.objects before.state k object query input.line s is)
 
-  pub back_taken : (m : WireMessage) → called input.call ≡ Receive m → is_stale before.state m ≡ true
-      → IsSaidBack before.state m.from s → TakesBy Wrote (OfCall input IsTurnHere k) TellsNoLine before after
+  pub back_taken : (m : WireMessage) → called input.call ≡ Receive m → is_stale before.state.kept m ≡ true
+      → IsSaidBack before.state.kept m.from s → TakesBy Wrote (OfCall input IsTurnHere k) TellsNoLine before after
   back_taken m e stale is =
       said_taken (Receive m) e
-      (is_received before.state k m (only_writes before.state input.line (said_text (own_of before.state) k s)) true stale refl
+      (is_received before.state k m (only_writes before.state input.line (said_text (own_of before.state) k s)) true
+      stale refl
       (is_told_back before.state k m.from input.line s is))
 
-  pub tick_taken : called input.call ≡ Tick → IsSaidAgain before.state s
+-- what waits is sent once more
+module _ (Wrote : (before after : Option (List ℕ)) → List ℕ → Type 0) (k : ℕ) (input : InputState) (before after : Io)
+    (same : after.state ≡ before.state) (still : after.journal ≡ before.journal) (own : ℕ)
+    (is_own : own ≡ own_of before.state) (e : called input.call ≡ Tick) where
+  sent_taken : (text : List ℕ) → Wrote before.out after.out text
+      → (mail : List code.Message) → whole_mail mail ≡ again before.state.kept
+      → ((offered : Counts) → AreToldIn before.state.kept offered mail)
+      → text ≡ letters_text (letters_of before.state.known before.state.kept (filter (is_owed before.state.known) mail))
       → TakesBy Wrote (OfCall input IsTurnHere k) TellsNoLine before after
-  tick_taken e is = said_taken Tick e (is_ticked before.state k input.line s is)
+  sent_taken text w mail whole over is =
+      let letters = letters_of before.state.known before.state.kept (filter (is_owed before.state.known) mail) in
+      let turn = only_sends before.state input.line letters in
+      record {
+        turn = turn;
+        is = (
+          refl,
+          subst (λ (x : WireCall). IsTurnHere before.objects before.state k x turn) (sym e)
+              (inl (record { mail = mail; whole = whole; over = over; turn = refl })),
+        );
+        now_is = sym same;
+        wrote = subst (Wrote before.out after.out) is w;
+        journal = still ∙ sym (append-nil before.journal);
+        tells = refl;
+      }
+
+  pub tick_taken : (s : Said) → Wrote before.out after.out (said_text own k s)
+      → IsSaidAgain before.state.known before.state.kept s
+      → TakesBy Wrote (OfCall input IsTurnHere k) TellsNoLine before after
+  tick_taken (said.Lines text) w is = sent_taken text.items w is.0 is.1 is.2 is.3
+  tick_taken said.NoSuchObject w is = absurd is
+  tick_taken said.Memory w is =
+      said_taken Wrote k input before after said.Memory same still own is_own w Tick e (inr refl)
 
 -- what another is known to have changes nothing else
 pub known_taken : (input : InputState) (k : ℕ) (io : Io) (standing : Standing) → called input.call ≡ Known standing

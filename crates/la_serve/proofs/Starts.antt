@@ -1,5 +1,7 @@
 -- What a start leads to.
-use Rattle.std.proofs.Common.{◌≡◌, Bool, true, false, ℕ, zero, suc, List, [], ◌++◌, refl, sym, ap, ◌∙◌, arith, ◌⊎◌, length, ◌≤◌, ◌<◌, Option, Some, None, option_map, Result, Ok, Err, OnOk, IfErr, inl, inr}
+use Rattle.std.proofs.Common.{◌≡◌, Bool, true, false, ℕ, zero, suc, List, [], ◌++◌, refl, sym, ap, ◌∙◌, arith, ◌⊎◌}
+use Rattle.std.proofs.Common.{length, ◌≤◌, ◌<◌, Option, Some, None, option_map, Result, Ok, Err, OnOk, IfErr, inl}
+use Rattle.std.proofs.Common.{inr, subst}
 use Rattle.std.proofs.lemmas.Bool.{false≢true}
 use Rattle.std.proofs.lemmas.Option.{none-some}
 use Rattle.std.specs.Io.KnownBytes.{Appends}
@@ -29,6 +31,9 @@ use Rattle.la_io.proofs.lemmas.TellingOn.{tells_on}
 use Rattle.la_serve.specs.declared.error.NodeFault.{NodeFault}
 use Rattle.la_serve.specs.declared.error.NodeFault.TheVariants as fault
 use Rattle.la_serve.specs.declared.options.Options.{Options}
+use Rattle.la_serve.specs.Turns.{ServerState}
+use Rattle.la_node.specs.declared.link.Links.{Links}
+use Rattle.la_node.specs.Links.{no_links}
 use Rattle.la_serve.specs.Io.{Io, Streams, Facts, io_with}
 use Rattle.la_serve.specs.Turns.{Turn}
 use Rattle.la_serve.specs.Serving.{ServesAll, ServesSome, ServesClosed, IsServeRefusal, kept_lines}
@@ -114,8 +119,12 @@ module _ (Told Told2 : List (List ℕ) → Type 0) (told : (ts : List (List ℕ)
 
 -- ## A run, by what was served behind its recovery
 
+abbrev stands_on : ReplicaState → Links → ServerState
+stands_on kept known = record { kept = kept; known = known }
+
 module _ {D R W E : Type 0} (f : Facts D R W E) (objects objects2 : List (ℕ × Kind)) (options : Options)
-    (disk recovered final : D) (old new : Streams R W E) (between : E) (before now : ReplicaState)
+    (disk recovered final : D) (old new : Streams R W E) (between : E) (before : ReplicaState) (now : ServerState)
+    (known : Links) (nothing : known ≡ no_links)
     (plays : leads_from (at_start options.config options.own) (f.seen disk) ≡ Some before)
     (leads : leads_from (at_start options.config options.own) (f.seen recovered) ≡ Some before)
     (same : lines (f.seen recovered) ≡ lines (f.seen disk))
@@ -135,10 +144,14 @@ module _ {D R W E : Type 0} (f : Facts D R W E) (objects objects2 : List (ℕ ×
     Here = Leaves f.seen f.may_leave f.moment f.left_since before recovered final old.given new.given
 
     abbrev at_first : Io
-    at_first = io_with f old objects before (lines (f.seen recovered))
+    at_first = io_with f old objects (stands_on before known) (lines (f.seen recovered))
 
     abbrev at_last : Io
     at_last = io_with f new objects2 now (lines (f.seen final))
+
+    -- with the objects that the shelf had
+    abbrev at_end : Io
+    at_end = io_with f new objects now (lines (f.seen final))
 
     abbrev There : (turns last : List Turn) → Type 0
     There = LeftBy f options disk final before old.given new.given
@@ -154,7 +167,12 @@ module _ {D R W E : Type 0} (f : Facts D R W E) (objects objects2 : List (ℕ ×
       plays = plays;
       journal = lines (f.seen final);
       now = now;
-      serves = serves_to Told (TellsOfRun f disk old new) behind_first Here There of_run at_first at_last (lines (f.seen disk)) same objects s;
+      serves =
+          subst
+          (λ k. ServesAll (TellsOfRun f disk old new) There
+          (io_with f old objects (stands_on before k) (lines (f.seen disk))) at_end) nothing
+          (serves_to Told (TellsOfRun f disk old new) behind_first Here There of_run at_first at_last
+          (lines (f.seen disk)) same objects s);
     }
     runs (Err e) s = tt
 
@@ -165,7 +183,12 @@ module _ {D R W E : Type 0} (f : Facts D R W E) (objects objects2 : List (ℕ ×
       plays = plays;
       journal = lines (f.seen final);
       now = now;
-      stops = refusal_to Told (TellsOfRun f disk old new) behind_first Here There of_run at_first at_last (lines (f.seen disk)) same objects why s;
+      stops =
+          subst
+          (λ k. IsServeRefusal (TellsOfRun f disk old new) There
+          (io_with f old objects (stands_on before k) (lines (f.seen disk))) at_end why) nothing
+          (refusal_to Told (TellsOfRun f disk old new) behind_first Here There of_run at_first at_last
+          (lines (f.seen disk)) same objects why s);
     }
 
     run_stops : (why : NodeFault) → IsServeRefusal Told Here at_first at_last why

@@ -1,8 +1,8 @@
 -- One step of a node that takes lines.
-use Rattle.std.proofs.Common.{ℕ, ◌<◌, List, [], ◌∷◌, ◌++◌, length, refl, sym, append-nil, Option}
+use Rattle.std.proofs.Common.{◌≡◌, ℕ, true, List, [], ◌∷◌, ◌++◌, refl, sym, append-nil, Option}
 use Rattle.std.specs.Io.KnownBytes.{Consumes}
 use Rattle.std.proofs.KnownBytes.{Appends-nil}
-use Rattle.la_io.specs.declared.source.TheConstants.{MAX_LINE}
+use Rattle.la_io.specs.Limits.{is_too_long}
 use Rattle.la_wire.specs.declared.error.LineFault.TheVariants.{TooLong}
 use Rattle.la_wire.specs.Notes.{line_fault_line}
 use Rattle.la_io.specs.Sources.{IsOneLine}
@@ -14,7 +14,7 @@ use Rattle.la_serve.proofs.Turns.{long_turn}
 
 -- a line that is too long
 pub long_step : {E : Type 0} (heard : E → Option (List ℕ)) (refuses : E → List ℕ → E → Type 0) (k : ℕ) (before : Io)
-    (left : Option (List ℕ)) (e1 e2 : E) (line : List ℕ) → IsOneLine line → MAX_LINE < length line
+    (left : Option (List ℕ)) (e1 e2 : E) (line : List ℕ) → IsOneLine line → is_too_long line ≡ true
     → Consumes before.left left (line ++ 10 ∷ []) → TellsLine heard refuses e1 e2 (line_fault_line k TooLong)
     → TakesLine (IsTurnStep k) (TellsAll heard refuses e1 e2) before (record before { left = left })
 long_step heard refuses k before left e1 e2 line one lt read t = record {

@@ -1,11 +1,10 @@
 -- One turn behind others.
 use Rattle.std.proofs.Common.{◌≡◌, ℕ, ◌+◌, List, [], ◌∷◌, ◌++◌, length, refl, subst, arith}
 use Rattle.la_object.specs.declared.kind.Kind.{Kind}
-use Rattle.la_serve.specs.Turns.{Turn, IsTurn}
+use Rattle.la_serve.specs.Turns.{Turn, ServerState, IsTurn}
 use Rattle.la_serve.specs.Serving.{AreTurns}
-use Rattle.la_replica.specs.ReplicaState.{ReplicaState}
 
-pub turns_snoc : (objects : List (ℕ × Kind)) (n : ReplicaState) (k : ℕ) (turns : List Turn) (m : ReplicaState)
+pub turns_snoc : (objects : List (ℕ × Kind)) (n : ServerState) (k : ℕ) (turns : List Turn) (m : ServerState)
     (t : Turn)
     → AreTurns objects n k turns m → IsTurn objects m (k + length turns) t
     → AreTurns objects n k (turns ++ t ∷ []) t.after
@@ -16,8 +15,8 @@ turns_snoc objects n k (x ∷ xs) m t are is =
     let next : k + length (x ∷ xs) ≡ k + 1 + length xs = omega arith in
     (are.0, turns_snoc objects x.after (k + 1) xs m t are.1 (subst (λ j. IsTurn objects m j t) next is))
 
-pub turns_join : (objects : List (ℕ × Kind)) (n : ReplicaState) (k : ℕ) (turns : List Turn) (m : ReplicaState)
-    (more : List Turn) (after : ReplicaState) → AreTurns objects n k turns m
+pub turns_join : (objects : List (ℕ × Kind)) (n : ServerState) (k : ℕ) (turns : List Turn) (m : ServerState)
+    (more : List Turn) (after : ServerState) → AreTurns objects n k turns m
     → AreTurns objects m (k + length turns) more after → AreTurns objects n k (turns ++ more) after
 turns_join objects n k [] m more after are then =
     let here : k + 0 ≡ k = omega arith in

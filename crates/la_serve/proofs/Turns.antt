@@ -1,10 +1,9 @@
 -- What makes a turn.
-use Rattle.std.proofs.Common.{◌≡◌, ◌⊎◌, ℕ, ◌<◌, ◌≤◌, nat_lt, Bool, true, false, List, [], ◌∷◌, ◌++◌, length, refl}
-use Rattle.std.proofs.Common.{sym, subst, ap, ◌∙◌, append-nil, Option, Some, None, inl, inr, arith}
-use Rattle.std.proofs.lemmas.Bool.Decides.{nat_tests}
+use Rattle.std.proofs.Common.{◌≡◌, ◌⊎◌, ℕ, Bool, true, false, List, [], ◌++◌, length, refl}
+use Rattle.std.proofs.Common.{sym, subst, ap, ◌∙◌, append-nil, Option, Some, None, inl, inr}
 use Rattle.la_set.specs.Histories.{updates}
 use Rattle.la_object.specs.declared.kind.Kind.{Kind}
-use Rattle.la_io.specs.declared.source.TheConstants.{MAX_LINE}
+use Rattle.la_io.specs.Limits.{is_too_long}
 use Rattle.la_wire.specs.declared.error.LineFault.{LineFault}
 use Rattle.la_wire.specs.declared.error.LineFault.TheVariants.{TooLong}
 use Rattle.la_wire.specs.declared.error.LineError.TheVariants.{Fault}
@@ -13,8 +12,10 @@ use Rattle.la_wire.specs.CallLines.{named_call}
 use Rattle.la_durable.specs.declared.error.NodeError.{NodeError}
 use Rattle.la_durable.specs.declared.error.NodeError.TheVariants.{Memory}
 use Rattle.la_node.specs.declared.link.Links.{Links}
+use Rattle.la_node.specs.Links.{letters_of}
 use Rattle.la_node.specs.Steps.{Given}
-use Rattle.la_durable.specs.Nodes.{acts}
+use Rattle.la_journal.specs.Staging.{kept_unless}
+use Rattle.la_durable.specs.Nodes.{acts, leaves_be}
 use Rattle.la_durable.specs.Errors.{IsForMemory}
 use Rattle.la_durable.specs.Inputs.{InputState, IsInputRefusal}
 use Rattle.la_wire.specs.Notes.{refused_note}
@@ -22,32 +23,26 @@ use Rattle.la_durable.specs.CallLines.{is_line}
 use Rattle.la_serve.specs.Names.{refusal_name}
 use Rattle.la_serve.specs.Turns.{Turn, only_writes, turn_refused, faulty, call_text, own_of, is_note, OneOf, SaysCall}
 use Rattle.la_serve.specs.Turns.{HasFault, IsStarved, IsTurnHere, IsCallTurn, IsShortTurn, IsTurn, IsKeptTurn}
-use Rattle.la_serve.specs.Turns.{is_elsewhere}
+use Rattle.la_serve.specs.Turns.{ServerState, is_elsewhere, IsTurnOf, noted_by}
 use Rattle.la_serve.specs.Io.{Io}
 use Rattle.la_serve.specs.Serving.{OfCall, TakesBy, TellsNoLine}
 use Rattle.la_replica.specs.ReplicaState.{ReplicaState}
 
-short : (line : List ℕ) → length line ≤ MAX_LINE → nat_lt MAX_LINE (length line) ≡ false
-short line le = grind (arith, nat_tests)
-
-long : (line : List ℕ) → MAX_LINE < length line → nat_lt MAX_LINE (length line) ≡ true
-long line lt = grind (arith, nat_tests)
-
-module _ (objects : List (ℕ × Kind)) (n : ReplicaState) (k : ℕ) where
-  pub short_turn : (t : Turn) → length t.line ≤ MAX_LINE → IsShortTurn objects n k t → IsTurn objects n k t
+module _ (objects : List (ℕ × Kind)) (n : ServerState) (k : ℕ) where
+  pub short_turn : (t : Turn) → is_too_long t.line ≡ false → IsShortTurn objects n k t → IsTurn objects n k t
   unfolding IsTurn
   short_turn t le s =
-      subst (λ b. OneOf b (t ≡ faulty n k t.line TooLong) (IsShortTurn objects n k t)) (sym (short t.line le)) s
+      subst (λ b. OneOf b (t ≡ faulty n k t.line TooLong) (IsShortTurn objects n k t)) (sym le) s
 
-  pub long_turn : (line : List ℕ) → MAX_LINE < length line → IsTurn objects n k (faulty n k line TooLong)
+  pub long_turn : (line : List ℕ) → is_too_long line ≡ true → IsTurn objects n k (faulty n k line TooLong)
   unfolding IsTurn
   long_turn line lt =
       subst
       (λ b.
       OneOf b (faulty n k line TooLong ≡ faulty n k line TooLong) (IsShortTurn objects n k (faulty n k line TooLong)))
-      (sym (long line lt)) refl
+      (sym lt) refl
 
-  pub note_turn : (line : List ℕ) → length line ≤ MAX_LINE → is_note line ≡ true
+  pub note_turn : (line : List ℕ) → is_too_long line ≡ false → is_note line ≡ true
       → IsTurn objects n k (only_writes n line [])
   note_turn line le is =
       short_turn (only_writes n line []) le
@@ -58,20 +53,20 @@ module _ (objects : List (ℕ × Kind)) (n : ReplicaState) (k : ℕ) where
       (only_writes n line []))))
       (sym is) refl)
 
-  other_turn : (t : Turn) → length t.line ≤ MAX_LINE → is_note t.line ≡ false
+  other_turn : (t : Turn) → is_too_long t.line ≡ false → is_note t.line ≡ false
       → (SaysCall objects n k t ⊎ (HasFault n k t ⊎ IsStarved n k t)) → IsTurn objects n k t
   other_turn t le is s =
       short_turn t le
       (subst (λ b. OneOf b (t ≡ only_writes n t.line []) (SaysCall objects n k t ⊎ (HasFault n k t ⊎ IsStarved n k t)))
       (sym is) s)
 
-  pub call_turn : (line : List ℕ) (call : WireCall) → length line ≤ MAX_LINE → is_note line ≡ false
+  pub call_turn : (line : List ℕ) (call : WireCall) → is_too_long line ≡ false → is_note line ≡ false
       → named_call line ≡ Some call
       → is_line line ≡ true → (t : Turn)
       → (t.line ≡ line) × IsCallTurn objects n k call t → (t.line ≡ line) × IsTurn objects n k t
   call_turn line call le is says stands t (same, turn) = (
     same,
-    other_turn t (subst (λ l. length l ≤ MAX_LINE) (sym same) le) (ap is_note same ∙ is)
+    other_turn t (subst (λ l. is_too_long l ≡ false) (sym same) le) (ap is_note same ∙ is)
         (inl (record {
           call = call;
           says = ap named_call same ∙ says;
@@ -80,18 +75,18 @@ module _ (objects : List (ℕ × Kind)) (n : ReplicaState) (k : ℕ) where
         })),
   )
 
-  pub fault_turn : (line : List ℕ) (f : LineFault) → length line ≤ MAX_LINE → is_note line ≡ false
+  pub fault_turn : (line : List ℕ) (f : LineFault) → is_too_long line ≡ false → is_note line ≡ false
       → IsInputRefusal line (Fault f) → IsTurn objects n k (faulty n k line f)
   fault_turn line f le is refusal =
       other_turn (faulty n k line f) le is (inr (inl (record { fault = f; is = refusal; turn = refl })))
 
-  pub starved_turn : (line : List ℕ) → length line ≤ MAX_LINE → is_note line ≡ false
+  pub starved_turn : (line : List ℕ) → is_too_long line ≡ false → is_note line ≡ false
       → IsTurn objects n k (turn_refused n k line Memory)
   starved_turn line le is = other_turn (turn_refused n k line Memory) le is (inr (inr refl))
 
   -- a call that is passed over
-  pub passed_turn : (line : List ℕ) (call : WireCall) (b : Bool) → b ≡ true → is_elsewhere n call ≡ b
-      → IsCallTurn objects n k call (only_writes n line [])
+  pub passed_turn : (line : List ℕ) (call : WireCall) (b : Bool) → b ≡ true → is_elsewhere n.kept call ≡ b
+      → IsTurnOf objects n k call (only_writes n line [])
   passed_turn line call b so is =
       subst (λ b. OneOf b (only_writes n line [] ≡ only_writes n line []) (IsTurnHere objects n k call
       (only_writes n line [])))
@@ -104,15 +99,36 @@ OfKept input k = OfCall input (λ _. IsKeptTurn) k
 
 module _ (Wrote : (before after : Option (List ℕ)) → List ℕ → Type 0) (k : ℕ) (input : InputState) (before after : Io)
   where
-    pub take_taken : (given : Given) → acts before.state (called input.call) ≡ Some (given, after.state)
-        → after.journal ≡ before.journal ++ input.line ∷ [] → (text : List ℕ) (known : Links)
-        → text ≡ call_text (length (updates before.state.view)) known after.state (called input.call) given
+    pub take_taken : (given : Given) → acts before.state.kept (called input.call) ≡ Some (given, after.state.kept)
+        → after.journal
+        ≡ before.journal ++ kept_unless (leaves_be before.state.kept after.state.kept (called input.call) given)
+        input.line
+        → after.state.known ≡ before.state.known → (text : List ℕ)
+        → text ≡ call_text (length (updates before.state.kept.view)) before.state.known after.state.kept
+        (called input.call) given
         → Wrote before.out after.out text → TakesBy Wrote (OfKept input k) TellsNoLine before after
-    take_taken given acted journal text known is w = record {
-      turn = record { line = input.line; text = text; kept = input.line ∷ []; told = []; after = after.state };
+    take_taken given acted journal known text is w = record {
+      turn = record {
+        line = input.line;
+        text = text;
+        sent = letters_of before.state.known after.state.kept given.mail;
+        learnt = noted_by before.state.kept.own (called input.call) given;
+        kept = kept_unless (leaves_be before.state.kept after.state.kept (called input.call) given) input.line;
+        told = [];
+        after = after.state;
+      };
       is = (
         refl,
-        inl (record { given = given; acted = acted; known = known; written = is; journal = refl; silent = refl }),
+        inl (record {
+          given = given;
+          acted = acted;
+          known = known;
+          written = is;
+          sent = refl;
+          learnt = refl;
+          journal = refl;
+          silent = refl;
+        }),
       );
       now_is = refl;
       wrote = w;
@@ -120,7 +136,7 @@ module _ (Wrote : (before after : Option (List ℕ)) → List ℕ → Type 0) (k
       tells = refl;
     }
 
-    pub take_refused : (why : NodeError) → (IsForMemory why ⊎ (acts before.state (called input.call) ≡ None))
+    pub take_refused : (why : NodeError) → (IsForMemory why ⊎ (acts before.state.kept (called input.call) ≡ None))
         → after.state ≡ before.state → after.journal ≡ before.journal
         → Wrote before.out after.out (refused_note (own_of before.state) k (refusal_name why))
         → TakesBy Wrote (OfKept input k) TellsNoLine before after
@@ -138,6 +154,13 @@ pub same_text : (text : List ℕ) (before b : ℕ) (known : Links) (after : Repl
     → text ≡ call_text b known after call2 given
 same_text text before b known after call call2 given e p q =
     e ∙ ap (λ x. call_text x known after call given) p ∙ ap (λ y. call_text b known after y given) q
+
+abbrev pub with_kept : Links → ReplicaState → ServerState
+with_kept known n = record { kept = n; known = known }
+
+pub same_kept : (n m : ReplicaState) (known : Links) → n ≡ m
+    → with_kept known n ≡ with_kept known m
+same_kept n m known is = ap (with_kept known) is
 
 pub same_refusal : (P : List ℕ → Type 0) (own own2 k : ℕ) (name name2 : List ℕ) → own ≡ own2 → name ≡ name2
     → P (refused_note own k name) → P (refused_note own2 k name2)

@@ -11,12 +11,12 @@ use Rattle.la_io.specs.declared.source.Source.{Source}
 use Rattle.la_io.specs.Sources.{ahead}
 use Rattle.la_serve.specs.declared.output.Output.{Output}
 use Rattle.la_serve.specs.declared.server.Server.{Server}
-use Rattle.la_replica.specs.ReplicaState.{ReplicaState}
+use Rattle.la_serve.specs.Turns.{ServerState}
 
 pub record Io : Type 0 where
-  -- the objects on the shelf, and what the node keeps
+  -- the objects on the shelf, and what the node stands on
   pub objects : List (ℕ × Kind)
-  pub state : ReplicaState
+  pub state : ServerState
   -- what is left of the input, and what is in the output
   pub left : Option (List ℕ)
   pub out : Option (List ℕ)
@@ -25,11 +25,14 @@ pub record Io : Type 0 where
 
 -- ## Of values that a call has
 
+abbrev pub server_state : {D B : Type 0} {g : Ghosts D} → Server D B g → ServerState
+server_state server = record { kept = kept_by server.node.durable.machine; known = server.links }
+
 -- a server, whose staged lines are the journal
 abbrev pub io_at : {D B : Type 0} {g : Ghosts D} → (left out : Option (List ℕ)) → Server D B g → Io
 io_at left out server = record {
   objects = server.shelf.objects;
-  state = kept_by server.node.durable.machine;
+  state = server_state server;
   left = left;
   out = out;
   journal = ended server.node.text.items;
@@ -122,7 +125,7 @@ facts seen may_leave moment left_since remaining contents heard refuses = record
 }
 
 -- what streams have, where the journal has these lines
-abbrev pub io_with : {D R W E : Type 0} → Facts D R W E → Streams R W E → List (ℕ × Kind) → ReplicaState
+abbrev pub io_with : {D R W E : Type 0} → Facts D R W E → Streams R W E → List (ℕ × Kind) → ServerState
     → (journal : List (List ℕ)) → Io
 io_with f s objects n journal =
     record { objects = objects; state = n; left = f.remaining s.input; out = f.contents s.output; journal = journal }
@@ -132,7 +135,7 @@ abbrev pub io_on : {D R W E B : Type 0} {g : Ghosts D} (seen : D → List ℕ) (
     (contents : W → Option (List ℕ)) → Streams R W E → Server D B g → Io
 io_on seen remaining contents s server = record {
   objects = server.shelf.objects;
-  state = kept_by server.node.durable.machine;
+  state = server_state server;
   left = remaining s.input;
   out = contents s.output;
   journal = lines (seen server.node.durable.disk);

@@ -11,3 +11,4 @@ pub mod Crashes
 pub mod Starting
 pub mod Ending
 pub mod Lives
+pub mod Processes

@@ -7,7 +7,7 @@ use Rattle.la_journal.specs.Machine.{steps, LeadsToSome}
 use Rattle.la_durable.specs.CallLines.{CallLine}
 use Rattle.la_durable.specs.Nodes.{step}
 use Rattle.la_durable.specs.Restarts.{leads_from}
-use Rattle.la_serve.specs.Turns.{Turn}
+use Rattle.la_serve.specs.Turns.{Turn, ServerState}
 use Rattle.la_serve.specs.Serving.{AreTurns}
 use Rattle.la_serve.specs.Crashes.{in_order, kept_count, Leaves, LeavesOfRun}
 use Rattle.la_replica.specs.ReplicaState.{ReplicaState}
@@ -17,21 +17,22 @@ use Rattle.la_replica.specs.ReplicaState.{ReplicaState}
 -- When each of these texts was given out the node was in some state. A crash at any moment from then on leaves a
 -- journal that leads from there on, to where the first some of the calls lead that it kept since.
 abbrev pub GoesOn : (left_since : ℕ → List ℕ → Type 0) (start : ReplicaState) (objects : List (ℕ × Kind))
-    → (calls : List CallLine) → ReplicaState → List (List Turn) → List GivenAt → Type 0
+    → (calls : List CallLine) → ServerState → List (List Turn) → List GivenAt → Type 0
 GoesOn left_since start objects calls n [] given = ⊤
 GoesOn left_since start objects calls n (group ∷ before) [] = ⊤
 GoesOn left_since start objects calls n (group ∷ before) (g ∷ given) =
-    ((then : ReplicaState) (c : List ℕ) → AreTurns objects n 1 (in_order (group ∷ before)) then
-    → left_since g.moment c → LeadsToSome (leads_from start) step (drop (kept_count (group ∷ before)) calls) then c)
+    ((then : ServerState) (c : List ℕ) → AreTurns objects n 1 (in_order (group ∷ before)) then
+    → left_since g.moment c
+    → LeadsToSome (leads_from start) step (drop (kept_count (group ∷ before)) calls) then.kept c)
     × GoesOn left_since start objects calls n before given
 
 -- of whatever a run left, by what its clauses say of that
 abbrev pub KilledNodesGoOn : {D : Type 0} (seen : D → List ℕ) (may_leave : D → List ℕ → Type 0) (moment : D → ℕ)
     (left_since : D → ℕ → List ℕ → Type 0) → Type 0
 KilledNodesGoOn {D = D} seen may_leave moment left_since =
-    (start n : ReplicaState) (objects : List (ℕ × Kind)) (old new : D) (before after : List GivenAt)
-    (turns last : List Turn) (left : Leaves seen may_leave moment left_since n old new before after turns last) →
-    leads_from start (seen old) ≡ Some n →
+    (start : ReplicaState) (n : ServerState) (objects : List (ℕ × Kind)) (old new : D) (before after : List GivenAt)
+    (turns last : List Turn) (left : Leaves seen may_leave moment left_since n.kept old new before after turns last) →
+    leads_from start (seen old) ≡ Some n.kept →
     GoesOn (left_since new) start objects (left.calls ++ left.later) n left.groups left.given
 
 -- ## Lives one after another

@@ -33,13 +33,13 @@ IsSaidAnswer own object o said.Memory = ⊤
 abbrev pub answer_by : List (ℕ × Kind) → ReplicaState → (object : ℕ) → Query → Option Answer
 answer_by objects n object query = answer_at (record { view = n.view; objects = objects }) object query
 
--- what waits for an answer, once more; or there was no memory
-abbrev pub IsSaidAgain : ReplicaState → Said → Type 0
-IsSaidAgain n (said.Lines text) =
+-- what waits for an answer, once more, but for what is known to be known; or there was no memory
+abbrev pub IsSaidAgain : (known : Links) → ReplicaState → Said → Type 0
+IsSaidAgain known n (said.Lines text) =
     (mail : List code.Message) × (whole_mail mail ≡ again n) × ((offered : Counts) → AreToldIn n offered mail)
-    × (known : Links) × (text.items ≡ letters_text (letters_of known n (filter (is_owed known) mail)))
-IsSaidAgain n said.NoSuchObject = ⊥
-IsSaidAgain n said.Memory = ⊤
+    × (text.items ≡ letters_text (letters_of known n (filter (is_owed known) mail)))
+IsSaidAgain known n said.NoSuchObject = ⊥
+IsSaidAgain known n said.Memory = ⊤
 
 -- how far a node is; or there was no memory
 abbrev pub IsSaidBack : ReplicaState → (to : ℕ) → Said → Type 0

@@ -15,11 +15,10 @@ use Rattle.la_io.specs.Streams.{TellsAll}
 use Rattle.la_serve.specs.declared.error.NodeFault.{NodeFault}
 use Rattle.la_serve.specs.declared.error.NodeFault.TheVariants as fault
 use Rattle.la_serve.specs.Io.{Io, StepAt, io_in}
-use Rattle.la_serve.specs.Turns.{Turn, IsTurn}
-use Rattle.la_replica.specs.ReplicaState.{ReplicaState}
+use Rattle.la_serve.specs.Turns.{Turn, ServerState, IsTurn}
 
 -- these are the turns of a node from a state on, the first of which is line k's, and this is the state after them
-abbrev pub AreTurns : List (ℕ × Kind) → ReplicaState → (k : ℕ) → List Turn → (after : ReplicaState) → Type 0
+abbrev pub AreTurns : List (ℕ × Kind) → ServerState → (k : ℕ) → List Turn → (after : ServerState) → Type 0
 AreTurns objects n k [] after = after ≡ n
 AreTurns objects n k (t ∷ turns) after = IsTurn objects n k t × AreTurns objects t.after (k + 1) turns after
 
@@ -45,7 +44,7 @@ abbrev pub OfLine : (line : List ℕ) → (k : ℕ) → (before after : Io) → 
 OfLine line k before after t = (t.line ≡ line) × IsTurn before.objects before.state k t
 
 -- of a line that says a call
-abbrev pub OfCall : InputState → (List (ℕ × Kind) → ReplicaState → (k : ℕ) → WireCall → Turn → Type 0) → (k : ℕ)
+abbrev pub OfCall : InputState → (List (ℕ × Kind) → ServerState → (k : ℕ) → WireCall → Turn → Type 0) → (k : ℕ)
     → (before after : Io) → Turn → Type 0
 OfCall input Is k before after t =
     (t.line ≡ input.line) × Is before.objects before.state k (called input.call) t
@@ -185,7 +184,7 @@ pub record ServesClosed (Told : List (List ℕ) → Type 0) (Left : (turns last 
     Type 0 where
   pub turns : List Turn
   pub last : List Turn
-  pub now : ReplicaState
+  pub now : ServerState
   pub are : AreTurns before.objects before.state 1 (turns ++ last) now
   pub read : ReadsFront before.left after.left (turn_lines (turns ++ last))
   pub wrote : Appends before.out after.out (written turns)

@@ -10,6 +10,7 @@ use Rattle.la_journal.specs.Playing.{rest_in, IsNotPlayed}
 use Rattle.la_journal.specs.Records.{parts}
 use Rattle.la_journal.specs.declared.recovery.Unplayed.{Unplayed}
 use Rattle.la_node.specs.declared.error.WorldError.TheVariants as world
+use Rattle.la_node.specs.Links.{no_links}
 use Rattle.la_node.specs.Nodes.{IsStartRefusal}
 use Rattle.la_durable.specs.CallLines.{call_line}
 use Rattle.la_durable.specs.Nodes.{empty_shelf, step}
@@ -23,6 +24,7 @@ use Rattle.la_serve.specs.declared.error.NodeFault.TheVariants as fault
 use Rattle.la_serve.specs.declared.options.Options.{Options}
 use Rattle.la_serve.specs.Faults.{of_journal, IfDisk}
 use Rattle.la_serve.specs.Io.{Streams, Facts, facts, io_with}
+use Rattle.la_serve.specs.Turns.{ServerState}
 use Rattle.la_serve.specs.Serving.{ServesAll, IsServeRefusal}
 use Rattle.la_serve.specs.Crashes.{at_start, LeftBy}
 use Rattle.la_replica.specs.ReplicaState.{ReplicaState}
@@ -38,16 +40,20 @@ abbrev pub TellsOfRun : {D R W E : Type 0} → Facts D R W E → (disk : D) → 
 TellsOfRun f disk old new lines =
     TellsAll f.heard f.refuses old.errors new.errors (torn_told (length (rest_in (parts (f.seen disk)))) ++ lines)
 
+-- a node that was started knows nothing of others
+abbrev pub newly_started : ReplicaState → ServerState
+newly_started n = record { kept = n; known = no_links }
+
 -- where the journal leads the lines of an input were taken, all of them
 pub record RunsAll {D R W E : Type 0} (f : Facts D R W E) (objects : List (ℕ × Kind)) (options : Options)
     (disk final : D) (old new : Streams R W E) : Type 0 where
   pub before : ReplicaState
   pub plays : leads_from (at_start options.config options.own) (f.seen disk) ≡ Some before
   pub journal : List (List ℕ)
-  pub now : ReplicaState
+  pub now : ServerState
   pub serves : ServesAll (TellsOfRun f disk old new)
       (LeftBy f options disk final before old.given new.given)
-      (io_with f old objects before (lines (f.seen disk))) (io_with f new objects now journal)
+      (io_with f old objects (newly_started before) (lines (f.seen disk))) (io_with f new objects now journal)
 
 -- or some of them
 pub record RunsCut {D R W E : Type 0} (f : Facts D R W E) (objects : List (ℕ × Kind)) (options : Options)
@@ -55,10 +61,10 @@ pub record RunsCut {D R W E : Type 0} (f : Facts D R W E) (objects : List (ℕ �
   pub before : ReplicaState
   pub plays : leads_from (at_start options.config options.own) (f.seen disk) ≡ Some before
   pub journal : List (List ℕ)
-  pub now : ReplicaState
+  pub now : ServerState
   pub stops : IsServeRefusal (TellsOfRun f disk old new)
       (LeftBy f options disk final before old.given new.given)
-      (io_with f old objects before (lines (f.seen disk))) (io_with f new objects now journal) why
+      (io_with f old objects (newly_started before) (lines (f.seen disk))) (io_with f new objects now journal) why
 
 -- nothing was read, written or told, and a crash leaves what might have been left before, or what leads to the same
 pub record RunsNot {D R W E : Type 0} (f : Facts D R W E) (options : Options) (disk final : D) (old new : Streams R W

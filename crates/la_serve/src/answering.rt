@@ -1,14 +1,14 @@
 // What a node does with one line.
-ghost use Rattle.std.specs.Prelude.{◌≡◌, ◌≤◌, length, true, IfErr, OnOk, OnErr};
+ghost use Rattle.std.specs.Prelude.{◌≡◌, true, false, IfErr, OnOk, OnErr};
 ghost use Rattle.la_io.specs.Streams.{Writes, WritesPrefix};
-ghost use Rattle.la_io.specs.declared.source.TheConstants.{MAX_LINE};
+ghost use Rattle.la_io.specs.Limits.{is_too_long};
 ghost use Rattle.la_wire.specs.Calls.{called};
 ghost use Rattle.la_wire.specs.Messages.{said_content, letter_message};
 ghost use Rattle.la_io.specs.Streams.{TellsAll};
 ghost use Rattle.la_durable.specs.Nodes.{kept_by};
 ghost use Rattle.std.specs.List.{list_all};
 ghost use Rattle.la_set.specs.Inclusion.{IsSubset};
-ghost use Rattle.la_serve.specs.Turns.{is_note, is_elsewhere, IsKeptTurn, IsCallTurn, IsTurnHere, is_stale, is_told_known, is_reached};
+ghost use Rattle.la_serve.specs.Turns.{known_after, is_note, is_elsewhere, IsKeptTurn, IsTurnOf, IsCallTurn, IsTurnHere, is_stale, is_told_known, is_reached};
 ghost use Rattle.la_object.specs.Shelves.{answer_at};
 ghost use Rattle.la_serve.specs.Said.{said_text, IsSaidAnswer, answer_by, IsSaidAgain, IsSaidBack};
 ghost use Rattle.la_serve.specs.Io.{io_of, TakesLines, OnlyStages};
@@ -91,7 +91,9 @@ fn is_within(counts: Counts, delta: &Delta) -> bool
 }
 
 // Takes note of how far the replica of this group is that a call comes from.
-fn hear(links: &mut Links, machine: &NodeMachine, call: &Call) {
+fn hear(links: &mut Links, machine: &NodeMachine, call: &Call)
+    ensures { links.new ≡ known_after (kept_by machine.now) links.old (called call.now) }
+{
     let replicas = machine.node.replicas();
     match call {
         Call::Receive(letter) if letter.replicas == replicas => {
@@ -168,7 +170,7 @@ fn said_by_view<B: Replicated>(
 
 // What waits for an answer, once more.
 fn said_again(alloc: Global, machine: &NodeMachine, links: &Links) -> Said
-    ensures { IsSaidAgain (kept_by machine.now) result }
+    ensures { IsSaidAgain links.now (kept_by machine.now) result }
 {
     let Ok(mail) = machine.node.again() else {
         return Said::Memory;
@@ -242,6 +244,25 @@ fn call_here<W: Write, D: Disk, B: Replicated>(
     }
 }
 
+// A call of which it was heard how far its sender is.
+fn call_heard<W: Write, D: Disk, B: Replicated>(
+    alloc: Global,
+    server: &mut Server<D, B>,
+    number: u64,
+    input: &Input,
+    output: &mut W,
+) -> Result<(), NodeFault>
+    requires { TakesLines server.old }
+    ensures ok { OnOk result (TakesLine (OfCall input.now IsTurnOf number) TellsNoLine (io_of (W.contents output.old) server.old) (io_of (W.contents output.new) server.new)) }
+    ensures err { IfErr result (Breaks (OfCall input.now IsTurnOf number) TellsNoLine (io_of (W.contents output.old) server.old) (io_of (W.contents output.new) server.new)) }
+    ensures stages { OnlyStages server.old server.new }
+{
+    if is_elsewhere(&server.node.durable.machine, input.call()) {
+        return Ok(());
+    }
+    call_here(alloc, server, number, input, output)
+}
+
 // A line that says a call.
 fn call<W: Write, D: Disk, B: Replicated>(
     alloc: Global,
@@ -255,15 +276,12 @@ fn call<W: Write, D: Disk, B: Replicated>(
     ensures err { IfErr result (Breaks (OfCall input.now IsCallTurn number) TellsNoLine (io_of (W.contents output.old) server.old) (io_of (W.contents output.new) server.new)) }
     ensures stages { OnlyStages server.old server.new }
 {
-    let call = input.call();
-    hear(&mut server.links, &server.node.durable.machine, call);
-    if is_elsewhere(&server.node.durable.machine, call) {
-        return Ok(());
-    }
-    call_here(alloc, server, number, input, output)
+    let Server { node, links, .. } = &mut *server;
+    hear(links, &node.durable.machine, input.call());
+    call_heard(alloc, server, number, input, output)
 }
 
-/// Takes line `number` of an input, which has at most [`la_io::MAX_LINE`] bytes, without its end. Where it is
+/// Takes line `number` of an input, which has no more bytes than [`la_io::limit_of`] says, without its end. Where it is
 /// kept it is staged: what is written of it may go out only once that is committed.
 ///
 /// `WriteFault` comes where a write fails, and `Memory` where the lines find no room: then a front of
@@ -276,7 +294,7 @@ pub fn answer<W: Write, E: Listener, D: Disk, B: Replicated>(
     output: &mut W,
     errors: &mut E,
 ) -> Result<(), NodeFault>
-    requires short { length line.now ≤ MAX_LINE }
+    requires short { is_too_long line.now ≡ false }
     requires takes { TakesLines server.old }
     ensures ok { OnOk result (TakesLine (OfLine line.now number) (TellsAll E.contents E.refuses errors.old errors.new) (io_of (W.contents output.old) server.old) (io_of (W.contents output.new) server.new)) }
     ensures err { IfErr result (Breaks (OfLine line.now number) (TellsAll E.contents E.refuses errors.old errors.new) (io_of (W.contents output.old) server.old) (io_of (W.contents output.new) server.new)) }

@@ -14,13 +14,13 @@ use std::alloc::Global;
 /// What became of a call that is to be kept.
 #[derive(Drop)]
 pub enum Kept {
-    /// It was taken, and its line is staged.
+    /// It was taken, and its line is staged if it changed anything.
     Taken(Received),
     /// It was refused, and nothing has changed.
     Refused(NodeError),
 }
 
-/// Takes a call and stages its line.
+/// Takes a call and stages its line, if the call changed anything.
 pub fn keep<D: Disk>(alloc: Global, node: &mut Staged<NodeMachine, D>, input: &Input) -> Kept
     requires unclosed { node.old.durable.closed ≡ false }
     ensures outcome { IsOutcome (kept_by node.old.durable.machine) (kept_by node.new.durable.machine)
@@ -33,7 +33,7 @@ pub fn keep<D: Disk>(alloc: Global, node: &mut Staged<NodeMachine, D>, input: &I
     let _call = input.call();
     laws::views_grow();
     match node.stage(alloc, input) {
-        Ok(given) => Kept::Taken(given),
+        Ok(answer) => Kept::Taken(answer.received),
         Err(Unstaged::Machine(refusal)) => Kept::Refused(refusal),
         Err(Unstaged::Memory) => Kept::Refused(NodeError::Memory),
         Err(Unstaged::Closed) => unreachable!(),

@@ -24,6 +24,8 @@ pub struct Options {
     pub config: Config,
     /// Which replica it is, from 0 on.
     pub own: u8,
+    /// How many seconds without input until it ticks by itself the first time, at most 3,600; with 0 it never does.
+    pub tick: u16,
     /// The folder of its journal.
     pub folder: String,
 }
@@ -92,7 +94,10 @@ fn node_command<'a>(alloc: Global) -> Result<Command<'a>, AllocError>
     let caps = value_parser!(u32).range(1..=1_000_000);
     let help = "How many updates it may submit, 1 to 1000000";
     let capped = with_number(alloc, shared, "cap", caps, "1000000", help)?;
-    let voted = with_votes(alloc, capped)?;
+    let ticks = value_parser!(u16).range(0..=3600);
+    let help = "Seconds without input until it ticks by itself, 0 to 3600; 0 is never";
+    let timed = with_number(alloc, capped, "tick", ticks, "0", help)?;
+    let voted = with_votes(alloc, timed)?;
     with_journal(alloc, voted)
 }
 
@@ -142,6 +147,7 @@ fn options_in(alloc: Global, given: &ArgMatches<'_>) -> Result<Option<Options>, 
     let own = given.get_one::<u8>("own").unwrap();
     let commits = given.get_one::<u8>("commits").unwrap();
     let cap = given.get_one::<u32>("cap").unwrap();
+    let tick = given.get_one::<u16>("tick").unwrap();
     let folder = given.get_str("journal").unwrap();
     let Some(votes) = votes_in(given, replicas) else {
         return Ok(None);
@@ -156,6 +162,7 @@ fn options_in(alloc: Global, given: &ArgMatches<'_>) -> Result<Option<Options>, 
     Ok(Some(Options {
         config,
         own,
+        tick,
         folder,
     }))
 }

@@ -1,9 +1,10 @@
-ghost use Rattle.std.specs.Prelude.{◌<◌, ◌≤◌, ◌≡◌, [], true, false, IfOk, IfErr, OnOk, OnErr};
+ghost use Rattle.std.specs.Prelude.{◌<◌, ◌≤◌, ◌≡◌, [], length, true, false, IfOk, IfErr, OnOk, OnErr};
 ghost use Rattle.std.specs.Io.KnownBytes.{IsAtEnd};
 ghost use Rattle.la_journal.specs.Durable.{IsSettled};
 ghost use Rattle.la_io.specs.Sources.{ahead, has_line};
 ghost use Rattle.la_serve.specs.Io.{TakesLines, OnlyStages, step_at, at_flush, io};
 ghost use Rattle.la_serve.specs.Faults.{IfDisk};
+ghost use Rattle.la_serve.specs.declared.serving.TheConstants.{MOST_HELD};
 ghost use Rattle.la_serve.specs.Serving.{StepsOn, StopsOn, of_step};
 ghost use Rattle.la_serve.specs.Crashes.{CommitsSome, Flushes, FlushesOrNot, FlushesNot, ServesLines, Ceases};
 
@@ -16,6 +17,9 @@ use la_object::Replicated;
 use la_wire::{LineFault, tell_fault};
 use std::alloc::Global;
 use std::io::{Read, Write};
+
+// From so many bytes on, what is held back goes out before the next line is taken, though more of them were read.
+const MOST_HELD: usize = 4_194_304;
 
 // Takes the next line, or answers that there is none. What it comes to is held back. It waits for a line only where
 // nothing is.
@@ -30,6 +34,7 @@ fn step<R: Read, E: Listener, D: Disk, B: Replicated>(
 ) -> Result<bool, NodeFault>
     requires takes { TakesLines server.old }
     requires flushed { has_line source.old ≡ false → (held.old.items ≡ []) × (server.old.node.text.items ≡ []) }
+    requires bound { length held.old.items < MOST_HELD }
     requires over { source.old.over ≡ true → IsAtEnd (ahead source.old (R.remaining input.old)) }
     ensures ok { IfOk result (StepsOn R.remaining E.contents E.refuses number (step_at source.old input.old held.old.items errors.old server.old) (step_at source.new input.new held.new.items errors.new server.new)) }
     ensures err { IfErr result (StopsOn R.remaining E.contents E.refuses number (step_at source.old input.old held.old.items errors.old server.old) (step_at source.new input.new held.new.items errors.new server.new)) }
@@ -66,7 +71,7 @@ fn flush<W: Write + Drop, D: Disk, B: Replicated>(
     ensures any_moment { CommitsSome D.seen D.moment D.left_since server.old.node.text.items server.old.node.durable.disk server.new.node.durable.disk }
     ensures settled { server.new.node.durable.closed ≡ false → IsSettled D.seen D.may_leave server.new.node.durable.disk }
     ensures unclosed { OnOk result (server.new.node.durable.closed ≡ false) }
-    ensures same { (server.new.node.durable.machine ≡ server.old.node.durable.machine) × (server.new.shelf ≡ server.old.shelf) }
+    ensures same { (server.new.node.durable.machine ≡ server.old.node.durable.machine) × (server.new.shelf ≡ server.old.shelf) × (server.new.links ≡ server.old.links) }
     ensures later { D.faults server.old.node.durable.disk ≤ D.faults server.new.node.durable.disk }
     ensures failed { IfErr result (λ why. IfDisk why (D.faults server.old.node.durable.disk < D.faults server.new.node.durable.disk)) }
 {
@@ -80,7 +85,7 @@ fn flush<W: Write + Drop, D: Disk, B: Replicated>(
     }
 }
 
-// The same, where the next line has still to be read, so that no answer waits for that.
+// The same, where the next line has still to be read, so that no answer waits for that, or where enough is held back.
 fn prepare<W: Write + Drop, D: Disk, B: Replicated>(
     source: &Source,
     server: &mut Server<D, B>,
@@ -95,11 +100,12 @@ fn prepare<W: Write + Drop, D: Disk, B: Replicated>(
     ensures settled { server.new.node.durable.closed ≡ false → IsSettled D.seen D.may_leave server.new.node.durable.disk }
     ensures unclosed { OnOk result (server.new.node.durable.closed ≡ false) }
     ensures flushed { OnOk result (has_line source.now ≡ false → (held.new.items ≡ []) × (server.new.node.text.items ≡ [])) }
-    ensures same { (server.new.node.durable.machine ≡ server.old.node.durable.machine) × (server.new.shelf ≡ server.old.shelf) }
+    ensures bound { OnOk result (length held.new.items < MOST_HELD) }
+    ensures same { (server.new.node.durable.machine ≡ server.old.node.durable.machine) × (server.new.shelf ≡ server.old.shelf) × (server.new.links ≡ server.old.links) }
     ensures later { D.faults server.old.node.durable.disk ≤ D.faults server.new.node.durable.disk }
     ensures failed { IfErr result (λ why. IfDisk why (D.faults server.old.node.durable.disk < D.faults server.new.node.durable.disk)) }
 {
-    if source.has_line() {
+    if source.has_line() && held.len() < MOST_HELD {
         return Ok(());
     }
     flush(server, held, output)

@@ -1,5 +1,5 @@
 -- A call as a line: a message, `tick`, or an event of a script of version 2 that is no delivery.
-use Rattle.std.specs.Prelude.{ℕ, nat_lt, Bool, true, not, ◌&&◌, List, [], ◌∷◌, codes, length, Option, Some, None}
+use Rattle.std.specs.Prelude.{ℕ, Bool, true, not, ◌&&◌, List, [], ◌∷◌, codes, Option, Some, None}
 use Rattle.std.specs.Prelude.{Result, Ok, Err, ◌==◌, if◌then◌else◌}
 use Rattle.std.specs.List.{before_first, list_all}
 use Rattle.std.specs.Fmt.{decimal}
@@ -17,7 +17,7 @@ use Rattle.la_script.specs.Lines.{line_event}
 use Rattle.la_wire.specs.declared.error.LineFault.{LineFault}
 use Rattle.la_wire.specs.declared.error.LineFault.TheVariants.{TooLong, BadLine, BadNumber}
 use Rattle.la_wire.specs.declared.messages.Kind.{Kind}
-use Rattle.la_io.specs.declared.source.TheConstants.{MAX_LINE}
+use Rattle.la_io.specs.Limits.{is_too_long}
 use Rattle.la_wire.specs.Joined.{joined_by, parted}
 use Rattle.la_wire.specs.Updates.{made, op_words}
 use Rattle.la_wire.specs.MessageLines.{kind_word, message_text, line_message, known_word, standing_text, standing_in}
@@ -91,7 +91,7 @@ call_of line = if bytes_eq line tick_word then Ok Tick else call_by (first_kind 
 
 -- the same, of a line that is not too long
 abbrev pub bounded_call_of : List ℕ → Result WireCall LineFault
-bounded_call_of line = if nat_lt MAX_LINE (length line) then Err TooLong else call_of line
+bounded_call_of line = if is_too_long line then Err TooLong else call_of line
 
 abbrev pub said_ok : {A : Type 0} → Result A LineFault → Option A
 said_ok (Ok x) = Some x

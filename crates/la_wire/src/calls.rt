@@ -10,7 +10,7 @@ ghost use Rattle.la_wire.specs.CallLines.{call_of, bounded_call_of, named_call};
 
 use crate::messages::{KNOWN, Kind, read_message, standing_in};
 use crate::{Letter, LineError, LineFault};
-use la_io::MAX_LINE;
+use la_io::limit_of;
 use la_node::Standing;
 use la_object::Query;
 use la_script::{FaultName, ReadError, Version, event_at, split_once, words_of};
@@ -160,14 +160,14 @@ pub fn read(alloc: Global, line: &[u8]) -> Result<Call, LineError>
     }
 }
 
-/// The call that a line from outside is, as [`read`] says: `TooLong` comes first, where it has more than
-/// [`la_io::MAX_LINE`] bytes, and then it is not looked at. So no line takes more memory than some such lines
+/// The call that a line from outside is, as [`read`] says: `TooLong` comes first, where it has more bytes than
+/// [`la_io::limit_of`] says, and then it is not looked at. So no line takes more memory than some such lines
 /// have bytes.
 pub fn read_bounded(alloc: Global, line: &[u8]) -> Result<Call, LineError>
     ensures exact { GivesOnLine called (bounded_call_of line.now) result }
     ensures ok { IfOk result (λ call. call_of line.now ≡ Ok (called call)) }
 {
-    if line.len() > MAX_LINE {
+    if line.len() > limit_of(line) {
         return Err(LineError::Fault(LineFault::TooLong));
     }
     read(alloc, line)

@@ -7,7 +7,7 @@ use thiserror::Error;
 /// What is wrong with a line.
 #[derive(Clone, Copy, Debug, PartialEq, Eq, Error)]
 pub enum LineFault {
-    /// It has more than [`la_io::MAX_LINE`] bytes.
+    /// It has more bytes than [`la_io::limit_of`] says.
     #[error("TooLong")]
     TooLong,
 

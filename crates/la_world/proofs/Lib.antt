@@ -75,3 +75,5 @@ pub mod LiveGroups
 pub mod RebasedReceipts
 pub mod LiveParcels
 mod Repeats
+pub mod ToldFurther
+pub mod Together

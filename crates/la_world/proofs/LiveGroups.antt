@@ -517,7 +517,7 @@ views_comparable_live c more calls before after m n reached later has_m has_n =
 
 -- ## What a program holds
 
-comparable_from : {A : Type 0} (some : ∥ A ∥₁) (a b : Histories) → (A → AreComparable a b) → AreComparable a b
+pub comparable_from : {A : Type 0} (some : ∥ A ∥₁) (a b : Histories) → (A → AreComparable a b) → AreComparable a b
 comparable_from some a b f = go (is_subset a b) refl (is_subset b a) refl
   where
     go : (v : Bool) → is_subset a b ≡ v → (w : Bool) → is_subset b a ≡ w → AreComparable a b
@@ -637,7 +637,7 @@ same_live nodes others network same live = ∥∥₁_map live (λ is. record {
   sent = is.sent;
 })
 
-put_put : {A : Type 0} (xs : List A) (k : ℕ) (x y : A) → slice_set (slice_set xs k x) k y ≡ slice_set xs k y
+pub put_put : {A : Type 0} (xs : List A) (k : ℕ) (x y : A) → slice_set (slice_set xs k x) k y ≡ slice_set xs k y
 put_put [] k x y = refl
 put_put (z ∷ xs) zero x y = refl
 put_put (z ∷ xs) (suc k) x y = ap (λ ys. z ∷ ys) (put_put xs k x y)

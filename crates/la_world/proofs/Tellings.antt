@@ -53,7 +53,7 @@ told_carries n (x ∷ t) =
 smaller_in : (c d : Counts) (r : ℕ) → r < 8 → count_in (smaller c d) r ≡ min (count_in c r) (count_in d r)
 smaller_in c d r lt = count_in-from_counts (λ q. min (count_in c q) (count_in d q)) r lt
 
-smaller_right : (c : Counts) (s : Histories) → HasCounts s (smaller c (counts_of s))
+pub smaller_right : (c : Counts) (s : Histories) → HasCounts s (smaller c (counts_of s))
 smaller_right c s =
     HasCounts-known s (smaller c (counts_of s))
     (λ r lt. omega (arith, smaller_in c (counts_of s) r lt, count_in-counts_of s r))

@@ -6,6 +6,9 @@ ghost use Rattle.la_world.specs.LiveGroups.{LiveLearntAreComparable, LiveViewsAr
 ghost use Rattle.la_world.specs.LiveGroups.{LiveNodesAreOneHistory, NewNodesAreLive};
 ghost use Rattle.la_world.specs.LiveGroups.{NetworksMayLose, CallsKeepLive, UnheardCallsKeepLive};
 ghost use Rattle.la_world.specs.LiveParcels.{ParcelReceiptsKeepLive, LettersTellWhatWasSent};
+ghost use Rattle.la_world.specs.Together.{NewReplicasAreTogether, CallsKeepTogether, LostCallsKeepTogether};
+ghost use Rattle.la_world.specs.Together.{RepeatsKeepTogether, LearntTogetherAreComparable};
+ghost use Rattle.la_world.specs.Together.{ViewsTogetherAreComparable, CommitsTogetherAgree};
 
 pub use la_node::laws::{kept_lists_are_played_again, kept_lists_lead_on};
 
@@ -74,4 +77,27 @@ pub fn letters_tell_what_was_sent()
 /// question or an object more or less, since it is none of these.
 pub fn unheard_calls_keep_live()
     ensures { UnheardCallsKeepLive }
+{}
+
+/// Replicas of a group in which nothing has happened are together.
+pub fn new_replicas_are_together()
+    ensures { NewReplicasAreTogether }
+{}
+
+/// Replicas that run each by itself stay together over any call of one of them, whatever it believes of the receivers
+/// of its letters; over calls of which nothing was given out, as of one that was killed and started again; and where
+/// one sends again what waits for an answer.
+pub fn replicas_stay_together()
+    ensures calls { CallsKeepTogether }
+    ensures lost { LostCallsKeepTogether }
+    ensures again { RepeatsKeepTogether }
+{}
+
+/// Of replicas that are together, over whatever losses, repeats, reorderings and restarts: any two sets that were
+/// learnt in one instance are comparable, and any two views; and where one commits a value in an adopt-commit object,
+/// all that return from that return it.
+pub fn replicas_together_keep_promises()
+    ensures learnt { LearntTogetherAreComparable }
+    ensures views { ViewsTogetherAreComparable }
+    ensures commits { CommitsTogetherAgree }
 {}

@@ -3,3 +3,4 @@ mod lists;
 mod no_commits;
 mod plays;
 mod runs;
+mod still;

@@ -4,7 +4,7 @@ ghost use Rattle.la_journal.specs.Durable.{IsSettled};
 
 use crate::given::{Start, disk_of, has, holds, started, tally_over};
 use crate::torn::{are_met, is_never_left};
-use crate::{Move, Tally};
+use crate::{Move, Tally, Total};
 use la_journal::{Disk, Durable, MemoryDisk, Refused, Uncompacted};
 use std::alloc::Global;
 
@@ -58,7 +58,7 @@ fn a_state_and_what_follows(rt: HostRuntime) {
     holds(
         &rt,
         "a move",
-        matches!(node.handle(alloc, &Move::Up), Ok(2)),
+        matches!(node.handle(alloc, &Move::Up), Ok(Total::Moved(2))),
     );
     let groups: &[&[u8]] = &[b"=u\n", b"", b"", b"u\n"];
     holds(&rt, "a group", has(alloc, &node.disk, groups));

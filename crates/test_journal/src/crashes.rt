@@ -4,7 +4,7 @@ ghost use Rattle.la_journal.specs.Durable.{IsSettled};
 
 use crate::given::{Start, disk_of, has, holds, recovered, started, tally_over};
 use crate::torn::{are_met, is_never_left};
-use crate::{Move, MoveError, Tally, counted};
+use crate::{Move, MoveError, Tally, Total, counted};
 use la_journal::{Disk, Durable, MemoryDisk, Refused};
 use std::alloc::Global;
 
@@ -13,6 +13,7 @@ const STARTS: &[(&[&[u8]], &[u8], Start)] = &[
     (&[], b"", Start::At(0, 0)),
     (&[b"u\n", b"u\n", b"d\n"], b"", Start::At(1, 0)),
     (&[b"u\nu\nd\n"], b"", Start::At(1, 0)),
+    (&[b"l\n", b"u\nl\n"], b"", Start::At(1, 0)),
     // What a crash left of a group, which no record stands behind.
     (&[], b"u\n", Start::At(0, 2)),
     (&[b"u\n"], b"u", Start::At(1, 1)),
@@ -50,7 +51,7 @@ fn a_new_file(rt: HostRuntime) {
     let mut node = tally_over(&rt, alloc, disk);
     holds(&rt, "a head", has(alloc, &node.disk, &[]) && node.cut == 0);
     let answer = node.handle(alloc, &Move::Up);
-    holds(&rt, "a move", matches!(answer, Ok(1)));
+    holds(&rt, "a move", matches!(answer, Ok(Total::Moved(1))));
     holds(&rt, "a group", has(alloc, &node.disk, &[b"u\n"]));
 }
 
@@ -105,7 +106,7 @@ fn a_full_disk(rt: HostRuntime) {
     let mut node = tally_over(&rt, alloc, disk_of(&rt, alloc, &[], b""));
     node.disk.full_at(most);
     let answer = node.handle(alloc, &Move::Up);
-    holds(&rt, "a move", matches!(answer, Ok(1)));
+    holds(&rt, "a move", matches!(answer, Ok(Total::Moved(1))));
     holds(&rt, "no room", fails(alloc, &mut node));
     holds(&rt, "one group", has(alloc, &node.disk, &[b"u\n"]));
     holds(&rt, "a start", started(alloc, node.disk) == Start::At(1, 0));
@@ -145,7 +146,7 @@ fn many(rt: HostRuntime) {
     holds(
         &rt,
         "answers",
-        answers.as_slice() == [2u64, 1, 0].as_slice(),
+        answers.as_slice() == [Total::Moved(2), Total::Moved(1), Total::Moved(0)].as_slice(),
     );
     holds(
         &rt,
@@ -155,7 +156,7 @@ fn many(rt: HostRuntime) {
     holds(
         &rt,
         "one more",
-        matches!(node.handle(alloc, &Move::Up), Ok(1)),
+        matches!(node.handle(alloc, &Move::Up), Ok(Total::Moved(1))),
     );
 }
 

@@ -27,4 +27,4 @@ mod torn;
 
 pub use kept::{Uncounted, counted_in};
 pub use made::{journal_of, put_line};
-pub use tally::{HEAD, Move, MoveError, Stopped, Tally, counted};
+pub use tally::{HEAD, Move, MoveError, Stopped, Tally, Total, counted};

@@ -6,7 +6,7 @@ ghost use Rattle.la_journal.specs.Durable.{IsSettled};
 use crate::given::{Start, disk_of, has, holds, recovered, started, tally_over};
 use crate::told::{Failing, Told};
 use crate::torn::{Way, are_met, behind, is_never_left, torn_of};
-use crate::{Move, Tally};
+use crate::{Move, Tally, Total};
 use la_journal::{
     Disk, Durable, MemoryDisk, Refused, Unserved, serve_all, serve_groups, start_again,
 };
@@ -79,13 +79,13 @@ fn torn_by(rt: &impl Abort, alloc: Global, disk: &MemoryDisk, left: Left) -> Vec
 }
 
 // Whether these are the numbers behind one.
-fn follow(given: &[(u64, u64)], begun: u64) -> bool {
+fn follow(given: &[(u64, Total)], begun: u64) -> bool {
     let mut last = begun;
     for (_, total) in given {
-        if last == u64::MAX || *total != last + 1 {
+        if last == u64::MAX || *total != Total::Moved(last + 1) {
             return false;
         }
-        last = *total;
+        last += 1;
     }
     true
 }
@@ -263,6 +263,7 @@ fn a_refusal_in_a_group(rt: HostRuntime) {
     holds(
         &rt,
         "the others",
-        told.given.len() == 1 && told.given[0].1.as_slice() == [1u64, 0].as_slice(),
+        told.given.len() == 1
+            && told.given[0].1.as_slice() == [Total::Moved(1), Total::Moved(0)].as_slice(),
     );
 }

@@ -14,6 +14,19 @@ use thiserror::Error;
 pub enum Move {
     Up,
     Down,
+
+    /// It stays as it is.
+    Look,
+}
+
+/// What a tally answers: its number.
+#[derive(Clone, Copy, Debug, PartialEq, Eq)]
+pub enum Total {
+    /// It has moved to this.
+    Moved(u64),
+
+    /// It was looked at, and is this as before.
+    Seen(u64),
 }
 
 /// Why a tally does not move.
@@ -39,11 +52,12 @@ pub struct Tally {
 
 impl Machine for Tally {
     ghost use Rattle.test_journal.specs.declared.tally.Move.{Move};
-    ghost use Rattle.test_journal.specs.Tally.{moved, text, named, number_in, head, round_trip, clean, clean_head};
+    ghost use Rattle.test_journal.specs.declared.tally.Total.{Total};
+    ghost use Rattle.test_journal.specs.Tally.{moved, answered, was_seen, tally_stays, text, named, number_in, head, round_trip, clean, clean_head};
 
     type Input = Move;
 
-    type Output = u64;
+    type Output = Total;
 
     type Refusal = MoveError;
 
@@ -57,11 +71,13 @@ impl Machine for Tally {
 
     ghost step = { moved };
 
-    ghost Answer = { Option ℕ };
+    ghost Answer = { Option Total };
 
-    ghost answer = { λ n. Some n };
+    ghost answer = { λ total. Some total };
 
-    ghost answers = { moved };
+    ghost answers = { answered };
+
+    ghost still = { was_seen };
 
     ghost text = { text };
 
@@ -77,13 +93,15 @@ impl Machine for Tally {
 
     ghost clean = { clean };
 
+    ghost stays = { tally_stays };
+
     ghost clean_head = { clean_head };
 
     fn head(&self, alloc: Global) -> Result<Vec<u8>, AllocError> {
         HEAD.to_vec(alloc)
     }
 
-    fn apply(&mut self, input: &Move) -> Result<u64, MoveError> {
+    fn apply(&mut self, input: &Move) -> Result<Total, MoveError> {
         match input {
             Move::Up => {
                 if self.total == u64::MAX {
@@ -97,8 +115,13 @@ impl Machine for Tally {
                 }
                 self.total -= 1;
             }
+            Move::Look => return Ok(Total::Seen(self.total)),
         }
-        Ok(self.total)
+        Ok(Total::Moved(self.total))
+    }
+
+    fn is_still(total: &Total) -> bool {
+        matches!(total, Total::Seen(_))
     }
 
     fn write(alloc: Global, input: &Move) -> Result<Vec<u8>, AllocError> {
@@ -106,6 +129,7 @@ impl Machine for Tally {
         line.push(match input {
             Move::Up => b'u',
             Move::Down => b'd',
+            Move::Look => b'l',
         })?;
         Ok(line)
     }
@@ -114,6 +138,7 @@ impl Machine for Tally {
         Ok(match line {
             [b'u'] => Some(Move::Up),
             [b'd'] => Some(Move::Down),
+            [b'l'] => Some(Move::Look),
             _ => None,
         })
     }
@@ -173,7 +198,7 @@ pub fn counted<D: Disk>(alloc: Global, found: Vec<u8>, disk: D) -> Result<(u64, 
         return Err(Stopped::Unplayed);
     };
     match tally.handle(alloc, &Move::Up) {
-        Ok(total) => Ok((total, tally.disk)),
+        Ok(_) => Ok((tally.machine.total, tally.disk)),
         Err(_) => Err(Stopped::Refused),
     }
 }

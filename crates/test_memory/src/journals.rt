@@ -10,7 +10,7 @@ use la_journal::{
     Unstaged, head_line, record_line, recover, start_again, text_of_head,
 };
 use std::alloc::Global;
-use test_journal::{Move, MoveError, Tally};
+use test_journal::{Move, MoveError, Tally, Total};
 
 // Journals by another program: a new one, one of two groups, and what calls make of that.
 const NEW: &str = "tally 1 c68c68fe2083a7e7\n";
@@ -131,20 +131,27 @@ fn handle<D: Disk>(node: &mut Durable<Tally, D>, alloc: Global) -> Came
 {
     let came = node.handle(alloc, &Move::Up);
     match came {
-        Ok(total) => Some(total == 3 && node.machine.total == 3),
+        Ok(total) => Some(total == Total::Moved(3) && node.machine.total == 3),
         Err(Refused::Memory) => refused(node.machine.total == 2 && !node.closed),
         Err(Refused::Disk) => refused(node.closed),
         Err(_) => Some(false),
     }
 }
 
-fn handle_all<D: Disk>(node: &mut Durable<Tally, D>, alloc: Global, answers: &mut Vec<u64>) -> Came
+fn handle_all<D: Disk>(
+    node: &mut Durable<Tally, D>,
+    alloc: Global,
+    answers: &mut Vec<Total>,
+) -> Came
     requires { node.old.closed ≡ false → IsSettled D.seen D.may_leave node.old.disk }
     ensures { node.new.closed ≡ false → IsSettled D.seen D.may_leave node.new.disk }
 {
     let came = node.handle_all(alloc, &[Move::Up, Move::Down], answers);
     match came {
-        Ok(()) => Some(answers.as_slice() == [3u64, 2].as_slice() && node.machine.total == 2),
+        Ok(()) => Some(
+            answers.as_slice() == [Total::Moved(3), Total::Moved(2)].as_slice()
+                && node.machine.total == 2,
+        ),
         Err(Refused::Memory) => refused(answers.is_empty() && node.machine.total == 2),
         Err(Refused::Disk) => refused(answers.is_empty() && node.closed),
         Err(_) => Some(false),
@@ -156,7 +163,7 @@ fn stage<D: Disk>(group: &mut Staged<Tally, D>, alloc: Global) -> Came
     ensures { group.new.durable.closed ≡ false → IsSettled D.seen D.may_leave group.new.durable.disk }
 {
     match group.stage(alloc, &Move::Up) {
-        Ok(total) => Some(total == 3 && group.durable.machine.total == 3),
+        Ok(total) => Some(total == Total::Moved(3) && group.durable.machine.total == 3),
         Err(Unstaged::Memory) => refused(group.durable.machine.total == 2 && group.text.is_empty()),
         Err(_) => Some(false),
     }

@@ -185,6 +185,35 @@ fn repeats(rt: &impl Abort, alloc: Global) {
     holds(rt, "told", tells && total(rt, &mut group[2]) == 5);
 }
 
+fn accepted(node: &Node<Counter>) -> usize {
+    match node.accepted(0) {
+        Some(accepted) => accepted.len(),
+        None => 0,
+    }
+}
+
+// Whether what is said of a message shows that nothing changed.
+fn is_still(rt: &impl Abort, node: &mut Node<Counter>, message: &Message) -> bool {
+    let before = accepted(node);
+    let received = node.receive(message).expect(rt, "received");
+    received.done.said.is_still(before < accepted(node))
+}
+
+// A node takes an offer twice.
+fn still_messages(rt: &impl Abort, alloc: Global) {
+    let mut node = node_of(rt, alloc, 0);
+    let mut other = node_of(rt, alloc, 1);
+    let out = other.submit(1, Op::Inc(1)).expect(rt, "submitted");
+    let Some(offer) = out.mail.at(0) else {
+        return;
+    };
+    let fresh = is_still(rt, &mut node, offer);
+    let repeated = is_still(rt, &mut node, offer);
+    holds(rt, "a fresh offer", !fresh && accepted(&node) == 1);
+    holds(rt, "a repeated offer", repeated && accepted(&node) == 1);
+    holds(rt, "no instance", node.accepted(200).is_none());
+}
+
 fn is_no_node(rt: &impl Abort, alloc: Global, own: u8, cap: u32, refusal: WorldError) {
     let config = Config {
         replicas: 3,
@@ -242,6 +271,11 @@ fn nodes_count_and_decide(rt: HostRuntime) {
 #[test]
 fn nodes_send_once_more(rt: HostRuntime) {
     repeats(&rt, rt.alloc());
+}
+
+#[test]
+fn nodes_say_what_changes_nothing(rt: HostRuntime) {
+    still_messages(&rt, rt.alloc());
 }
 
 #[test]

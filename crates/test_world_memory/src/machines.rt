@@ -83,7 +83,10 @@ fn acts(machine: &mut NodeMachine, input: &Input, sent: usize, view: usize) -> C
 fn applies(machine: &mut NodeMachine, input: &Input, sent: usize, view: usize) -> Came {
     let before = machine.node.view().len();
     match machine.apply(input) {
-        Ok(given) => { Some(given.done.mail.len() == sent && machine.node.view().len() == view) }
+        Ok(answer) => {
+            let mail = &answer.received.done.mail;
+            Some(mail.len() == sent && machine.node.view().len() == view)
+        }
         Err(it) => refused(it == NodeError::Memory && machine.node.view().len() == before),
     }
 }

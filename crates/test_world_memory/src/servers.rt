@@ -322,6 +322,7 @@ fn runs(alloc: Global) -> Came {
     let options = Options {
         config: alone(),
         own: 0,
+        tick: 0,
         folder: String::new(alloc),
     };
     let disk = disk_of(alloc, ROUND.as_bytes())?;

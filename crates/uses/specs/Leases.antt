@@ -1,6 +1,7 @@
 -- A lease that one holder has at a time, by lines of text.
 use Rattle.std.specs.Prelude.{◌≡◌, ℕ, Bool, true, false, List, [], ◌∷◌, Option, Some, None, if◌then◌else◌, ◌==◌, refl}
 use Rattle.std.proofs.Common.{arith}
+use Rattle.std.proofs.lemmas.Bool.{false≢true}
 use Rattle.la_journal.specs.Lines.{IsClean}
 use Rattle.la_journal.specs.Journal.{IsCallLine}
 use Rattle.uses.specs.declared.journals.Ask.{Ask}
@@ -12,6 +13,10 @@ taken_after false Take = Some true
 taken_after true Take = None
 taken_after true Release = Some false
 taken_after false Release = None
+
+-- each that is answered changes it
+pub none_is_still : (taken : Bool) (ask : Ask) → false ≡ true → taken_after taken ask ≡ Some taken
+none_is_still taken ask is = absurd (false≢true is)
 
 abbrev pub ask_text : Ask → List ℕ
 ask_text Take = 116 ∷ []

@@ -24,7 +24,7 @@ pub struct Lease {
 
 impl Machine for Lease {
     ghost use Rattle.uses.specs.declared.journals.Ask.{Ask};
-    ghost use Rattle.uses.specs.Leases.{taken_after, ask_text, named_ask, taken_in, ask_round_trip, ask_is_clean};
+    ghost use Rattle.uses.specs.Leases.{taken_after, ask_text, named_ask, taken_in, ask_round_trip, ask_is_clean, none_is_still};
     ghost use Rattle.uses.specs.Leases.{lease_head, lease_head_is_clean};
 
     type Input = Ask;
@@ -49,6 +49,8 @@ impl Machine for Lease {
 
     ghost answers = { taken_after };
 
+    ghost still = { λ _. false };
+
     ghost text = { ask_text };
 
     ghost named = { named_ask };
@@ -63,6 +65,8 @@ impl Machine for Lease {
 
     ghost clean = { ask_is_clean };
 
+    ghost stays = { none_is_still };
+
     ghost clean_head = { lease_head_is_clean };
 
     fn head(&self, alloc: Global) -> Result<Vec<u8>, AllocError> {
@@ -76,6 +80,10 @@ impl Machine for Lease {
         }
         self.taken = take;
         Ok(take)
+    }
+
+    fn is_still(_taken: &bool) -> bool {
+        false
     }
 
     fn write(alloc: Global, ask: &Ask) -> Result<Vec<u8>, AllocError> {

@@ -20,4 +20,5 @@ pub mod replicas;
 pub mod restarts;
 pub mod scripts;
 pub mod sets;
+pub mod ticks;
 pub mod worlds;

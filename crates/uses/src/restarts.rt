@@ -50,7 +50,7 @@ pub fn take_line<D: Disk>(
 {
     match Input::read(alloc, line) {
         Ok(input) => match durable.handle(alloc, &input) {
-            Ok(given) => Ok(Some(given)),
+            Ok(answer) => Ok(Some(answer.received)),
             Err(refused) => Err(refused),
         },
         Err(LineError::Fault(_)) => Ok(None),

@@ -7,7 +7,7 @@ use Rattle.la_journal.specs.Lines.{file_of}
 use Rattle.la_journal.specs.Journal.{lines}
 use Rattle.la_durable.specs.Nodes.{kept_by}
 use Rattle.la_serve.specs.declared.server.Server.{Server}
-use Rattle.la_serve.specs.Io.{Io}
+use Rattle.la_serve.specs.Io.{Io, server_state}
 use Rattle.la_serve.specs.Turns.{Turn}
 use Rattle.la_serve.specs.Serving.{ServesAll, turn_lines, written}
 use Rattle.la_serve.specs.Crashes.{Leaves}
@@ -17,7 +17,7 @@ use Rattle.uses_serve.specs.Serving.{IsServed, IsServedForGood}
 abbrev io_by : {D B : Type 0} {g : Ghosts D} → (seen : D → List ℕ) → Server D B g → (left out : List ℕ) → Io
 io_by seen server left out = record {
   objects = server.shelf.objects;
-  state = kept_by server.node.durable.machine;
+  state = server_state server;
   left = Some left;
   out = Some out;
   journal = lines (seen server.node.durable.disk);
@@ -55,6 +55,6 @@ for_good seen may_leave moment left_since before after Told given given_now batc
   wrote = s.wrote ∙ ap (λ (o : List ℕ). o ++ written s.turns) none ∙ ap written (sym s.left.are);
   texts = s.left.texts;
   goes_on = λ start was.
-      law start (kept_by before.node.durable.machine) before.shelf.objects before.node.durable.disk
+      law start (server_state before) before.shelf.objects before.node.durable.disk
       after.node.durable.disk given given_now s.turns [] s.left was;
 }

@@ -1,5 +1,6 @@
 -- What lines come to that a node served.
-use Rattle.std.specs.Prelude.{◌≡◌, ℕ, List, ◌++◌, Some}
+use Rattle.std.specs.Prelude.{◌≡◌, ℕ, List, ◌++◌, slice_get, slice_set, Contains, Some}
+use Rattle.std.specs.List.{flat_map}
 use Rattle.la_journal.specs.declared.disk.Disk.{Ghosts}
 use Rattle.la_journal.specs.Giving.{GivenAt}
 use Rattle.la_journal.specs.Lines.{file_of}
@@ -9,7 +10,11 @@ use Rattle.la_durable.specs.Nodes.{kept_by}
 use Rattle.la_durable.specs.Restarts.{leads_from}
 use Rattle.la_replica.specs.ReplicaState.{ReplicaState}
 use Rattle.la_serve.specs.declared.server.Server.{Server}
-use Rattle.la_serve.specs.Turns.{Turn}
+use Rattle.la_serve.specs.Io.{server_state}
+use Rattle.la_serve.specs.Turns.{Turn, ServerState}
+use Rattle.la_serve.specs.Processes.{AreProcesses, IsHandedLine}
+use Rattle.la_node.specs.declared.link.Letter.{Letter}
+use Rattle.la_world.specs.LiveGroups.{LearntSet}
 use Rattle.la_serve.specs.Serving.{AreTurns, turn_lines, written, kept_lines}
 use Rattle.la_serve.specs.Crashes.{in_order, AreFrontsOf}
 use Rattle.la_serve.specs.Lives.{GoesOn}
@@ -20,11 +25,33 @@ pub record IsServed {D B : Type 0} {g : Ghosts D} (seen : D → List ℕ) (befor
     (batch text : List ℕ) : Type 0 where
   pub turns : List Turn
   pub rest : List ℕ
-  pub are : AreTurns before.shelf.objects (kept_by before.node.durable.machine) 1 turns
-      (kept_by after.node.durable.machine)
+  pub are : AreTurns before.shelf.objects (server_state before) 1 turns (server_state after)
   pub read : batch ≡ file_of (turn_lines turns) ++ rest
   pub wrote : text ≡ written turns
   pub journal : lines (seen after.node.durable.disk) ≡ lines (seen before.node.durable.disk) ++ kept_lines turns
+
+-- the letters that these turns send, and the sets that they note as learnt
+abbrev pub all_sent : List Turn → List Letter
+all_sent turns = flat_map (λ (t : Turn). t.sent) turns
+
+abbrev pub all_learnt : List Turn → List LearntSet
+all_learnt turns = flat_map (λ (t : Turn). t.learnt) turns
+
+-- Whatever processes a node was together with as one of them, it is together with them afterwards, with all that it
+-- sent
+-- and noted, where each line to it says what a letter of one of them says.
+abbrev pub StaysTogether : (before after : ServerState) → List Turn → Type 0
+StaysTogether before after turns =
+    (nodes : List ServerState) (letters : List Letter) (learnt : List LearntSet) (r : ℕ) →
+    AreProcesses nodes letters learnt → slice_get nodes r ≡ Some before →
+    ((line : List ℕ) → Contains (turn_lines turns) line → IsHandedLine letters r line) →
+    AreProcesses (slice_set nodes r after) (letters ++ all_sent turns) (learnt ++ all_learnt turns)
+
+-- the same of lines that were served
+pub record IsServedTogether {D B : Type 0} {g : Ghosts D} (seen : D → List ℕ) (before after : Server D B g)
+    (batch text : List ℕ) : Type 0 where
+  pub served : IsServed seen before after batch text
+  pub together : StaysTogether (server_state before) (server_state after) served.turns
 
 -- The text is what these groups of turns come to, the newest first, each given out at a moment of the disk. Whatever a
 -- crash leaves from such a moment on, who starts on it goes on from there: with the first some of the calls that were
@@ -38,5 +65,4 @@ pub record IsServedForGood {D B : Type 0} {g : Ghosts D} (seen : D → List ℕ)
   pub texts : AreFrontsOf groups given
   pub goes_on : (start : ReplicaState)
       → leads_from start (seen before.node.durable.disk) ≡ Some (kept_by before.node.durable.machine)
-      → GoesOn (left_since after.node.durable.disk) start before.shelf.objects calls
-      (kept_by before.node.durable.machine) groups given
+      → GoesOn (left_since after.node.durable.disk) start before.shelf.objects calls (server_state before) groups given

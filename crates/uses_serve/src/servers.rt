@@ -2,7 +2,7 @@
 ghost use Rattle.std.specs.Prelude.{◌≡◌, [], IfOk};
 ghost use Rattle.la_journal.specs.Durable.{IsSettled};
 ghost use Rattle.la_serve.specs.Io.{TakesLines};
-ghost use Rattle.uses_serve.specs.Serving.{IsServed, IsServedForGood};
+ghost use Rattle.uses_serve.specs.Serving.{IsServed, IsServedTogether, IsServedForGood};
 
 use la_journal::Disk;
 use la_object::Replicated;
@@ -25,6 +25,21 @@ pub fn serve_batch<D: Disk, B: Replicated>(
     let mut input = batch;
     serve(alloc, server, &mut input, &mut output, &mut io::sink())?;
     Ok(output.writer)
+}
+
+/// Serves lines that were gathered, of a node of a group: whatever processes it is together with, it stays so.
+pub fn serve_together<D: Disk, B: Replicated>(
+    alloc: Global,
+    server: &mut Server<D, B>,
+    batch: &[u8],
+) -> Result<Vec<u8>, NodeFault>
+    requires settled { IsSettled D.seen D.may_leave server.old.node.durable.disk }
+    requires takes { TakesLines server.old }
+    requires unstaged { server.old.node.text.items ≡ [] }
+    ensures { IfOk result (λ text. IsServedTogether D.seen server.old server.new batch.now text.items) }
+{
+    laws::processes_stay_together();
+    serve_batch(alloc, server, batch)
 }
 
 /// Serves lines that were gathered, of a node that may be killed at any moment: whoever is started on what a crash left

@@ -352,6 +352,15 @@ fn last_learnt_is_exact<'a>(
     (replica.last_learnt(instance), replica.last_learnt(instance))
 }
 
+fn accepted_is_exact<'a>(
+    replica: &'a Replica,
+    instance: u8,
+) -> (Option<&'a UpdateSet>, Option<&'a UpdateSet>)
+    ensures { option_copied result.0 ≡ option_copied result.1 }
+{
+    (replica.accepted(instance), replica.accepted(instance))
+}
+
 fn submitted_is_exact(replica: &Replica, instance: u8) -> (Option<u32>, Option<u32>)
     ensures { result.0 ≡ result.1 }
 {
@@ -516,4 +525,10 @@ fn learnt_is_exact(said: &Said) -> (Option<&UpdateSet>, Option<&UpdateSet>)
     ensures { option_copied result.0 ≡ option_copied result.1 }
 {
     (said.learnt(), said.learnt())
+}
+
+fn is_still_is_exact(said: &Said, grew: bool) -> (bool, bool)
+    ensures { result.0 ≡ result.1 }
+{
+    (said.is_still(grew), said.is_still(grew))
 }

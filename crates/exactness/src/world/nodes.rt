@@ -37,8 +37,8 @@ fn is_group_is_exact(config: &Config) -> (bool, bool)
     (config.is_group(), config.is_group())
 }
 
-// What a node tells of itself: which replica it is, its group, how far it is, its view and what it learnt last and
-// submitted in an instance, and whether it has an object.
+// What a node tells of itself: which replica it is, its group, how far it is, its view and what it learnt last,
+// accepted and submitted in an instance, and whether it has an object.
 fn own_is_exact<B: Replicated>(node: &Node<B>) -> (u8, u8)
     ensures { result.0 ≡ result.1 }
 {
@@ -88,6 +88,15 @@ fn last_learnt_is_exact<B: Replicated>(
     ensures { option_copied result.0 ≡ option_copied result.1 }
 {
     (node.last_learnt(instance), node.last_learnt(instance))
+}
+
+fn accepted_is_exact<B: Replicated>(
+    node: &Node<B>,
+    instance: u8,
+) -> (Option<&UpdateSet>, Option<&UpdateSet>)
+    ensures { option_copied result.0 ≡ option_copied result.1 }
+{
+    (node.accepted(instance), node.accepted(instance))
 }
 
 fn submitted_is_exact<B: Replicated>(node: &Node<B>, instance: u8) -> (Option<u32>, Option<u32>)

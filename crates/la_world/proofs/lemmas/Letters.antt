@@ -28,13 +28,13 @@ parcels_refl : (p : Parcel) → AreAlikeParcels p p
 parcels_refl p =
     record { instance = refl; from = refl; to = refl; ballot = refl; content = contents_refl p.content }
 
-mapped_from : {A B : Type 0} (f : A → B) (xs : List A) (y : B) → Contains (map f xs) y
+pub mapped_from : {A B : Type 0} (f : A → B) (xs : List A) (y : B) → Contains (map f xs) y
     → (x : A) × Contains xs x × (f x ≡ y)
 mapped_from f xs y has =
     let found = IsIn_mapped f xs y (contains_IsIn (map f xs) y has) in
     (found.0, IsIn_contains xs found.0 found.1, found.2)
 
-mapped_has : {A B : Type 0} (f : A → B) (xs : List A) (x : A) → Contains xs x → Contains (map f xs) (f x)
+pub mapped_has : {A B : Type 0} (f : A → B) (xs : List A) (x : A) → Contains xs x → Contains (map f xs) (f x)
 mapped_has f xs x has =
     let place = IsIn_place xs x (contains_IsIn xs x has) in
     IsIn_contains (map f xs) (f x) (IsIn_get (map f xs) place.0 (f x) (get_mapped f xs place.0 x place.1))
@@ -56,7 +56,7 @@ retold links mail over k has =
     subst (λ n. IsRetold n mail) found.2
     (m, found.1, tells links m (All-contains (λ n. IsOfferOver (told_on links n).body) mail m over found.1))
 
-among : (links : Links) (r : ReplicaState) (mail : List code.Message)
+pub among : (links : Links) (r : ReplicaState) (mail : List code.Message)
     → AreParcelsAmong (parcels_of (letters_of links r mail)) (mail_on links mail)
 among links r mail p has =
     let letter = mapped_from (λ (l : Letter). l.parcel) (letters_of links r mail) p has in

@@ -86,7 +86,8 @@ fn copied(rt: &impl Abort, replica: &Replica) -> Replica {
     }
 }
 
-fn fresh(rt: &impl Abort, alloc: Global, play: &Play) -> Replica {
+/// The replica of a play, in which nothing has happened.
+pub fn fresh(rt: &impl Abort, alloc: Global, play: &Play) -> Replica {
     let (cap, commits) = (play.cap, play.commits);
     assert!(rt; 1 <= cap && cap <= 1000 && commits <= 16, "a replica");
     let votes = Votes::one_each(3);
@@ -123,7 +124,8 @@ fn submission_of(input: &Input) -> (u8, u16, Op) {
     }
 }
 
-fn message_of(rt: &impl Abort, alloc: Global, input: &Input) -> Option<Message> {
+/// The message of an input, which is no submission.
+pub fn message_of(rt: &impl Abort, alloc: Global, input: &Input) -> Option<Message> {
     match input {
         Input::Submits(_) | Input::Marks(_) => None,
         Input::Offer(instance, from, ballot, updates) => {
@@ -218,7 +220,12 @@ fn submit(rt: &impl Abort, replica: &mut Replica, input: &Input) -> Result<Out, 
     }
 }
 
-fn receive(rt: &impl Abort, replica: &mut Replica, message: &Message) -> Result<Out, ReplicaError> {
+/// Receives a message, and once more where memory was refused.
+pub fn receive(
+    rt: &impl Abort,
+    replica: &mut Replica,
+    message: &Message,
+) -> Result<Out, ReplicaError> {
     let before = standing(replica, 0);
     match replica.receive(message) {
         Err(ReplicaError::Memory) => {

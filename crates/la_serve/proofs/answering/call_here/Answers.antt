@@ -24,15 +24,16 @@ returns-in_err-put-in-Ask-clause-err g c =
 
 pub returns-in_ok-put-in-Tick-clause-ok : goal.returns-in_ok-put-in-Tick-clause-ok
 returns-in_ok-put-in-Tick-clause-ok g c =
-    tick_taken Appends c.args.number c.args.input.now _ _ c.said_again-said.result refl refl _ c.own-in-Tick.ensures
-    c.in_ok-put-in-Tick.ensures.ok (ap called (sym c.call.ensures.is ∙ c.in-Tick.is)) c.said_again-said.ensures
+    tick_taken Appends c.args.number c.args.input.now _ _ refl refl _ c.own-in-Tick.ensures
+    (ap called (sym c.call.ensures.is ∙ c.in-Tick.is)) c.said_again-said.result c.in_ok-put-in-Tick.ensures.ok
+    c.said_again-said.ensures
 
 pub returns-in_err-put-in-Tick-clause-err : goal.returns-in_err-put-in-Tick-clause-err
 returns-in_err-put-in-Tick-clause-err g c =
     let f : IfErr c.from_residual-in_err-put-in-Tick.result (λ e. e ≡ WriteFault) = search rules in
     if_err_cut _ _ _ _ c.from_residual-in_err-put-in-Tick.result f
-    (tick_taken AppendsPrefix c.args.number c.args.input.now _ _ c.said_again-said.result refl refl _
-    c.own-in-Tick.ensures c.in_err-put-in-Tick.ensures.err (ap called (sym c.call.ensures.is ∙ c.in-Tick.is))
+    (tick_taken AppendsPrefix c.args.number c.args.input.now _ _ refl refl _ c.own-in-Tick.ensures
+    (ap called (sym c.call.ensures.is ∙ c.in-Tick.is)) c.said_again-said.result c.in_err-put-in-Tick.ensures.err
     c.said_again-said.ensures)
 
 pub returns-in_ok-put-in-Receive-clause-ok : goal.returns-in_ok-put-in-Receive-clause-ok

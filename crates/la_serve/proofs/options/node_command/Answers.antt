@@ -27,7 +27,11 @@ returns-clause-app c =
     c.in_ok-capped.ensures.app 1 1000000
     (rw (c.value_parser-3.ensures, c.new-4.ensures.start, c.new-4.ensures.end) at c.range-caps.ensures)
     ∙ ap (λ (a : App). with_rule a (option (codes "cap") 1 1000000 (codes "1000000"))) shared in
-    let voted = c.in_ok-voted.ensures.app ∙ ap (λ (a : App). with_rule a votes_option) capped in
+    let timed =
+    c.in_ok-timed.ensures.app 0 3600
+    (rw (c.value_parser-4.ensures, c.new-5.ensures.start, c.new-5.ensures.end) at c.range-ticks.ensures)
+    ∙ ap (λ (a : App). with_rule a (option (codes "tick") 0 3600 (codes "0"))) capped in
+    let voted = c.in_ok-voted.ensures.app ∙ ap (λ (a : App). with_rule a votes_option) timed in
     IfOk-weaker c.with_journal.result _ _ (λ made h. h ∙ ap (λ (a : App). with_rule a journal_option) voted)
     c.with_journal.ensures.app
 
@@ -38,4 +42,5 @@ returns-clause-local c =
     ∙ ap (λ (f : Command-F Command). f.has_globals) c.version.ensures ∙ c.new.ensures.local in
     let placed = c.in_ok-placed.ensures.local (c.in_ok-sized.ensures.local start) in
     c.with_journal.ensures.local
-    (c.in_ok-voted.ensures.local (c.in_ok-capped.ensures.local (c.in_ok-shared.ensures.local placed)))
+    (c.in_ok-voted.ensures.local
+    (c.in_ok-timed.ensures.local (c.in_ok-capped.ensures.local (c.in_ok-shared.ensures.local placed))))

@@ -30,6 +30,12 @@ unwrap-cap-requires c =
     (found_of c.args.given.now) (codes "cap") 1 1000000 c.get_one-4.result c.requires.cap (omega arith)
     c.get_one-4.ensures.value (λ u x g. g.0)
 
+pub unwrap-tick-requires : goal.unwrap-tick-requires
+unwrap-tick-requires c =
+    some_number 16 (λ bs r. ParsesUnsigned 16 10 bs r × ExplainsUnsignedError 10 bs r × HasUnsignedDigitsIfOk bs r)
+    (found_of c.args.given.now) (codes "tick") 0 3600 c.get_one-5.result c.requires.tick (omega arith)
+    c.get_one-5.ensures.value (λ u x g. g.0)
+
 pub unwrap-folder-requires : goal.unwrap-folder-requires
 unwrap-folder-requires c =
     let found = found_of c.args.given.now in
@@ -76,11 +82,16 @@ returns c =
     taken_is_given 32 (λ bs r. ParsesUnsigned 32 10 bs r × ExplainsUnsignedError 10 bs r × HasUnsignedDigitsIfOk bs r)
     found (codes "cap") 1 1000000 c.get_one-4.result c.unwrap-cap.result c.requires.cap (omega arith)
     c.unwrap-cap.ensures c.get_one-4.ensures.none c.get_one-4.ensures.value (λ u x g. g.0) in
+    let tick =
+    taken_is_given 16 (λ bs r. ParsesUnsigned 16 10 bs r × ExplainsUnsignedError 10 bs r × HasUnsignedDigitsIfOk bs r)
+    found (codes "tick") 0 3600 c.get_one-5.result c.unwrap-tick.result c.requires.tick (omega arith)
+    c.unwrap-tick.ensures c.get_one-5.ensures.none c.get_one-5.ensures.value (λ u x g. g.0) in
     record {
       replicas_given = replicas.0;
       own_given = own.0;
       commits_given = commits.0;
       cap_given = cap.0;
+      tick_given = tick.0;
       in_range = record {
         some_replicas = replicas.1;
         few_replicas = replicas.2;
@@ -88,6 +99,7 @@ returns c =
         few_commits = commits.2;
         some_cap = cap.1;
         most_cap = cap.2;
+        most_tick = tick.2;
       };
       votes_given = c.in-Some.ensures;
       folder_given =

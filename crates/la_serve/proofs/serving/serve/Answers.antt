@@ -1,15 +1,15 @@
 use Rattle.std.proofs.Common.{◌≡◌, IfErr, refl, sym, subst, ap, ◌∙◌, rules, [], arith}
 use Rattle.std.proofs.lemmas.Bool.{false≢true}
 use Rattle.la_journal.specs.Durable.{IsSettled}
-use Rattle.la_durable.specs.Nodes.{kept_by}
 use Rattle.la_io.specs.Sources.{pending}
 use Rattle.la_io.specs.Streams.{TellsAll}
 use Rattle.la_serve.specs.declared.error.NodeFault.TheVariants as fault
 use Rattle.la_serve.specs.Io.{facts}
 use Rattle.la_serve.specs.Serving.{TurnSteps, IsServeRefusal}
 use Rattle.la_serve.proofs.Taking.{if_err_same, on_ok, if_err}
-use Rattle.la_serve.proofs.Behind.{held_io, run_io, Left, so_none, so_more, so_prepared, stopped, at_end, step_cut, unflushed, then_refused, serves_all}
-use Rattle.la_serve.proofs.Points.{point, start_at}
+use Rattle.la_serve.proofs.Behind.{held_io, run_io, Left, so_none, so_more, so_prepared, stopped, at_end, step_cut}
+use Rattle.la_serve.proofs.Behind.{unflushed, then_refused, serves_all}
+use Rattle.la_serve.proofs.Points.{point, start_at, same_state}
 use Rattle.la_serve.proofs.serving.serve.Goals as goal
 
 pub loop-number-init : goal.loop-number-init
@@ -43,7 +43,8 @@ returns-in_err-prepare-clause-err g c =
     if_err_same _ c.in_err-prepare.field-0.0 c.from_residual.result same
     (unflushed f first c.calls_follow_one_another.ensures left p0 p1 []
     (stopped f first p0 c.loop-number.number c.loop-number.invariant.so_far (pending c.loop-number.source) left refl)
-    (ap kept_by c.prepare.ensures.same.0) (g.met.D.Disk.only_now p1.disk) c.in_err-prepare.ensures.any_moment
+    (same_state c.prepare.ensures.same.0 c.prepare.ensures.same.2) (g.met.D.Disk.only_now p1.disk)
+    c.in_err-prepare.ensures.any_moment
     (g.met.D.Disk.counts_now p1.disk)
     c.in_err-prepare.field-0.0 c.in_err-prepare.ensures.err)
 
@@ -57,7 +58,8 @@ returns-in-Ok-false-clause-ok g c =
     let p1 = point f c.loop-number.source c.loop-number.input c.prepare.new.output c.prepare.new.held.items
     c.loop-number.errors c.prepare.new.server in
     let so = so_prepared f first c.calls_follow_one_another.ensures p0 p1 c.loop-number.number
-    c.loop-number.invariant.so_far refl refl (ap kept_by c.prepare.ensures.same.0) (g.met.D.Disk.only_now p1.disk)
+    c.loop-number.invariant.so_far refl refl (same_state c.prepare.ensures.same.0 c.prepare.ensures.same.2)
+    (g.met.D.Disk.only_now p1.disk)
     c.in_ok-prepare.ensures.ok in
     let objects = ap (λ s. s.objects) c.prepare.ensures.same.1 ∙ c.loop-number.invariant.objects in
     let p2 = point f c.step.new.source c.step.new.input c.prepare.new.output c.step.new.held.items c.step.new.errors
@@ -71,7 +73,7 @@ returns-in-Ok-false-clause-ok g c =
     (λ w.
     serves_all f first c.calls_follow_one_another.ensures p1 p2 p3 c.loop-number.number so objects
     c.step.ensures.stages.1 refl refl (pending c.step.new.source) (g.R.Read.remaining c.step.new.input) refl
-    (ap kept_by c.flush.ensures.same.0) (g.met.D.Disk.only_now p3.disk) ends w)
+    (same_state c.flush.ensures.same.0 c.flush.ensures.same.2) (g.met.D.Disk.only_now p3.disk) ends w)
     c.flush.ensures.ok
 
 pub returns-in-Ok-false-clause-err : goal.returns-in-Ok-false-clause-err
@@ -84,7 +86,8 @@ returns-in-Ok-false-clause-err g c =
     let p1 = point f c.loop-number.source c.loop-number.input c.prepare.new.output c.prepare.new.held.items
     c.loop-number.errors c.prepare.new.server in
     let so = so_prepared f first c.calls_follow_one_another.ensures p0 p1 c.loop-number.number
-    c.loop-number.invariant.so_far refl refl (ap kept_by c.prepare.ensures.same.0) (g.met.D.Disk.only_now p1.disk)
+    c.loop-number.invariant.so_far refl refl (same_state c.prepare.ensures.same.0 c.prepare.ensures.same.2)
+    (g.met.D.Disk.only_now p1.disk)
     c.in_ok-prepare.ensures.ok in
     let objects = ap (λ s. s.objects) c.prepare.ensures.same.1 ∙ c.loop-number.invariant.objects in
     let p2 = point f c.step.new.source c.step.new.input c.prepare.new.output c.step.new.held.items c.step.new.errors
@@ -100,7 +103,8 @@ returns-in-Ok-false-clause-err g c =
     (at_end f first p1 c.loop-number.number so p2 objects c.step.ensures.stages.1 refl refl (pending c.step.new.source)
     left
     refl ends)
-    (ap kept_by c.flush.ensures.same.0) (g.met.D.Disk.only_now p3.disk) c.flush.ensures.any_moment
+    (same_state c.flush.ensures.same.0 c.flush.ensures.same.2) (g.met.D.Disk.only_now p3.disk)
+    c.flush.ensures.any_moment
     (g.met.D.Disk.counts_now p3.disk))
     c.flush.ensures.err
 
@@ -116,7 +120,8 @@ returns-in_err-flush-in-Err-clause-err g c =
     let p1 = point f c.loop-number.source c.loop-number.input c.prepare.new.output c.prepare.new.held.items
     c.loop-number.errors c.prepare.new.server in
     let so = so_prepared f first c.calls_follow_one_another.ensures p0 p1 c.loop-number.number
-    c.loop-number.invariant.so_far refl refl (ap kept_by c.prepare.ensures.same.0) (g.met.D.Disk.only_now p1.disk)
+    c.loop-number.invariant.so_far refl refl (same_state c.prepare.ensures.same.0 c.prepare.ensures.same.2)
+    (g.met.D.Disk.only_now p1.disk)
     c.in_ok-prepare.ensures.ok in
     let objects = ap (λ s. s.objects) c.prepare.ensures.same.1 ∙ c.loop-number.invariant.objects in
     let p2 = point f c.step.new.source c.step.new.input c.prepare.new.output c.step.new.held.items c.step.new.errors
@@ -130,7 +135,8 @@ returns-in_err-flush-in-Err-clause-err g c =
     (pending c.step.new.source) left refl c.in-Err.fault c.in-Err.ensures.err in
     if_err_same _ c.in_err-flush-in-Err.field-0.0 c.from_residual-in_err-flush-in-Err.result same
     (unflushed f first c.calls_follow_one_another.ensures left p2 p3 cut.0 cut.1
-    (ap kept_by c.flush-in-Err.ensures.same.0) (g.met.D.Disk.only_now p3.disk) c.flush-in-Err.ensures.any_moment
+    (same_state c.flush-in-Err.ensures.same.0 c.flush-in-Err.ensures.same.2) (g.met.D.Disk.only_now p3.disk)
+    c.flush-in-Err.ensures.any_moment
     (g.met.D.Disk.counts_now p3.disk)
     c.in_err-flush-in-Err.field-0.0 c.in_err-flush-in-Err.ensures.err)
 
@@ -144,7 +150,8 @@ returns-in-Err-clause-err g c =
     let p1 = point f c.loop-number.source c.loop-number.input c.prepare.new.output c.prepare.new.held.items
     c.loop-number.errors c.prepare.new.server in
     let so = so_prepared f first c.calls_follow_one_another.ensures p0 p1 c.loop-number.number
-    c.loop-number.invariant.so_far refl refl (ap kept_by c.prepare.ensures.same.0) (g.met.D.Disk.only_now p1.disk)
+    c.loop-number.invariant.so_far refl refl (same_state c.prepare.ensures.same.0 c.prepare.ensures.same.2)
+    (g.met.D.Disk.only_now p1.disk)
     c.in_ok-prepare.ensures.ok in
     let objects = ap (λ s. s.objects) c.prepare.ensures.same.1 ∙ c.loop-number.invariant.objects in
     let p2 = point f c.step.new.source c.step.new.input c.prepare.new.output c.step.new.held.items c.step.new.errors
@@ -161,7 +168,8 @@ returns-in-Err-clause-err g c =
     (IsServeRefusal (TellsAll f.heard f.refuses first.errors p2.errors) (Left f first p3)
     (run_io f first first.ahead first) (run_io f first left p3)) (sym c.of_step.ensures)
     (then_refused f first c.calls_follow_one_another.ensures left p2 p3 cut.0 cut.1
-    (ap kept_by c.flush-in-Err.ensures.same.0) (g.met.D.Disk.only_now p3.disk) c.flush-in-Err.ensures.any_moment
+    (same_state c.flush-in-Err.ensures.same.0 c.flush-in-Err.ensures.same.2) (g.met.D.Disk.only_now p3.disk)
+    c.flush-in-Err.ensures.any_moment
     c.in-Err.fault cut.2 flushed)
 
 pub loop-number-preserved : goal.loop-number-preserved
@@ -174,7 +182,8 @@ loop-number-preserved g c =
     let p1 = point f c.loop-number.source c.loop-number.input c.prepare.new.output c.prepare.new.held.items
     c.loop-number.errors c.prepare.new.server in
     let so = so_prepared f first c.calls_follow_one_another.ensures p0 p1 c.loop-number.number
-    c.loop-number.invariant.so_far refl refl (ap kept_by c.prepare.ensures.same.0) (g.met.D.Disk.only_now p1.disk)
+    c.loop-number.invariant.so_far refl refl (same_state c.prepare.ensures.same.0 c.prepare.ensures.same.2)
+    (g.met.D.Disk.only_now p1.disk)
     c.in_ok-prepare.ensures.ok in
     let objects = ap (λ s. s.objects) c.prepare.ensures.same.1 ∙ c.loop-number.invariant.objects in
     let p2 = point f c.step.new.source c.step.new.input c.prepare.new.output c.step.new.held.items c.step.new.errors
@@ -214,7 +223,8 @@ returns-in_err-flush-clause-err g c =
     if_err_same _ c.in_err-flush.field-0.0 c.from_residual-in_err-flush.result same
     (unflushed f first c.calls_follow_one_another.ensures left p0 p1 []
     (stopped f first p0 c.loop-number.number c.loop-number.invariant.so_far (pending c.loop-number.source) left refl)
-    (ap kept_by c.flush-2.ensures.same.0) (g.met.D.Disk.only_now p1.disk) c.flush-2.ensures.any_moment
+    (same_state c.flush-2.ensures.same.0 c.flush-2.ensures.same.2) (g.met.D.Disk.only_now p1.disk)
+    c.flush-2.ensures.any_moment
     (g.met.D.Disk.counts_now p1.disk)
     c.in_err-flush.field-0.0 c.in_err-flush.ensures.err)
 
@@ -231,5 +241,6 @@ returns-clause-err g c =
     let flushed = c.in_ok-flush.ensures.ok in
     then_refused f first c.calls_follow_one_another.ensures left p0 p1 []
     (stopped f first p0 c.loop-number.number c.loop-number.invariant.so_far (pending c.loop-number.source) left refl)
-    (ap kept_by c.flush-2.ensures.same.0) (g.met.D.Disk.only_now p1.disk) c.flush-2.ensures.any_moment fault.ReadFault
+    (same_state c.flush-2.ensures.same.0 c.flush-2.ensures.same.2) (g.met.D.Disk.only_now p1.disk)
+    c.flush-2.ensures.any_moment fault.ReadFault
     refl flushed

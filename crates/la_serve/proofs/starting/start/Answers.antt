@@ -17,7 +17,8 @@ use Rattle.la_serve.specs.Crashes.{at_start}
 use Rattle.la_serve.specs.Io.{facts, io}
 use Rattle.la_io.specs.Streams.{TellsAll}
 use Rattle.la_serve.specs.Starting.{RunsAll, RunsNot, IsServerStartRefusal, torn_told}
-use Rattle.la_serve.proofs.Starts.{nothing_within, untouched, runs, stops, not_played, disk_failed, failed_later, err_both}
+use Rattle.la_serve.proofs.Starts.{nothing_within, untouched, runs, stops, not_played, disk_failed, failed_later}
+use Rattle.la_serve.proofs.Starts.{err_both}
 use Rattle.la_serve.proofs.starting.start.Goals as goal
 
 pub serve-served-requires-clause-takes : goal.serve-served-requires-clause-takes
@@ -63,7 +64,8 @@ returns-in-Ok-recover g c =
     (IsSameOr (f.may_leave disk) (leads_from (kept_by m)) (f.seen disk))) c.in-Ok.ensures.start
     c.in-Ok-recover.ensures.any_moment) in (
       subst (λ d. OnOk c.serve-served.result (RunsAll f objects options disk d old new)) (sym c.into_disk.ensures)
-          (runs f objects _ options disk recovered final old new c.tell_cut.new.errors _ _ plays leads same recovery
+          (runs f objects _ options disk recovered final old new c.tell_cut.new.errors _ _ _
+          c.new-in-Ok-recover-2.ensures plays leads same recovery
           told c.serve-served.result c.serve-served.ensures.ok),
       subst
           (λ d.
@@ -71,7 +73,8 @@ returns-in-Ok-recover g c =
           (g.D.Disk.faults disk < g.D.Disk.faults d)))
           (sym c.into_disk.ensures)
           (err_both c.serve-served.result _ _
-          (stops f objects _ options disk recovered final old new c.tell_cut.new.errors _ _ plays leads same recovery
+          (stops f objects _ options disk recovered final old new c.tell_cut.new.errors _ _ _
+          c.new-in-Ok-recover-2.ensures plays leads same recovery
           told c.serve-served.result c.serve-served.ensures.err)
           (failed_later c.serve-served.result (g.D.Disk.faults disk) (g.D.Disk.faults recovered)
           (g.D.Disk.faults final) later c.serve-served.ensures.failed)),
@@ -122,7 +125,8 @@ returns-in-Err-recover g c =
           < g.D.Disk.faults final)) (sym told) (
             not_played f c.args.shelf.objects options disk final same same (g.D.Disk.faults disk) (g.D.Disk.faults
                 final) not why c.in-Err-recover.ensures.untouched cause,
-            disk_failed options.config.replicas (length (f.seen disk)) (node_head fresh) (f.seen disk) fresh (g.D.Disk.faults disk)
+            disk_failed options.config.replicas (length (f.seen disk)) (node_head fresh) (f.seen disk) fresh
+                (g.D.Disk.faults disk)
                 (g.D.Disk.faults final) why cause,
           ),
     )

@@ -1,9 +1,20 @@
-use Rattle.std.proofs.Common.{◌≡◌, Bool, true, false, Result, Ok, refl, ap, sym, ◌∙◌, rules}
+use Rattle.std.proofs.Common.{◌≡◌, Bool, true, false, Result, Ok, Err, OnErr, refl, ap, sym, ◌∙◌, rules}
 use Rattle.std.proofs.lemmas.Bool.{false≢true}
 use Rattle.la_io.specs.declared.source.SourceFault.{SourceFault}
 use Rattle.la_io.specs.Sources.{pending}
-use Rattle.la_io.proofs.Sources.{at_end, at_line, goes_on}
+use Rattle.la_io.proofs.Sources.{at_end, at_line, goes_on, gathers_read}
 use Rattle.la_io.proofs.source.Source.next.Goals as goal
+
+on_err : {T E A : Type 0} (r : Result T E) → A → OnErr r A
+on_err (Ok x) a = tt
+on_err (Err e) a = a
+
+-- what was read of a line is lost with it
+pub returns-in_err-ready-clause-lost : goal.returns-in_err-ready-clause-lost
+returns-in_err-ready-clause-lost g c =
+    let so = gathers_read _ _ _ c.loop.is_long c.loop.self.line.items c.loop.invariant.so_far
+    c.in_err-ready.ensures.read in
+    on_err c.from_residual.result (so.got, so.read)
 
 apart : (b : Bool) → ◌≡◌ {A = Result Bool SourceFault} (Ok b) (Ok false) → b ≡ true → ⊥
 apart true e is = absurd cc

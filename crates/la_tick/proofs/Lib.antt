@@ -1,0 +1,4 @@
+mod Doubling
+mod Hearing
+mod Parts
+mod Whole

@@ -1,0 +1,6 @@
+-- How long nothing has to come before a tick, in milliseconds.
+use Rattle.std.specs.Prelude.{ℕ, ◌*◌, ◌^◌, min, max}
+
+-- the interval behind so many ticks since anything came: it doubles up to a minute; a first one that is longer stays
+abbrev pub interval : (first ticks : ℕ) → ℕ
+interval first ticks = min (first * 2 ^ ticks) (max first 60000)
