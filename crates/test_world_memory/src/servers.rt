@@ -24,7 +24,8 @@ use test_memory::{Came, again, refused, second};
 // ## Lines that are served
 
 // What a journal has, a line, whether that is kept, and what is written of it: also where the journal has gained
-// it once already, and nothing was written. An empty file is a new journal.
+// it once already, and nothing was written; where then nothing is written, it is not kept again. An empty file is a
+// new journal.
 struct Row {
     journal: &'static str,
     line: &'static str,
@@ -231,12 +232,12 @@ fn begun(journal: &'static str) -> &'static [u8] {
     journal.as_bytes()
 }
 
-// Where nothing was written the journal has gained the line or not.
-fn came_of(row: &Row, served: Served, before: &[u8], after: &[u8]) -> Came {
-    let has_line = row.is_kept && has_gained(after, before, row.line);
+// Where nothing was written the journal has gained a line that is kept or not.
+fn came_of(line: &str, is_kept: bool, served: Served, before: &[u8], after: &[u8]) -> Came {
+    let has_line = is_kept && has_gained(after, before, line);
     let is_same = after == before;
     match served {
-        Served::Well => Some(if row.is_kept { has_line } else { is_same }),
+        Served::Well => Some(if is_kept { has_line } else { is_same }),
         Served::Noted => refused(is_same),
         Served::Stopped => refused(is_same || has_line),
         Served::Wrong => Some(false),
@@ -249,14 +250,21 @@ fn serves_again(alloc: Global, row: &Row, journal: &[u8]) -> Came {
     let text = if is_first { row.text } else { row.later };
     let mut server = start(alloc, journal)?;
     let served = serve_line(alloc, &mut server, row.line, text);
-    came_of(row, served, journal, server.node.durable.disk.bytes())
+    let is_kept = row.is_kept && !text.is_empty();
+    came_of(
+        row.line,
+        is_kept,
+        served,
+        journal,
+        server.node.durable.disk.bytes(),
+    )
 }
 
 fn serves(alloc: Global, row: &Row) -> Came {
     let mut server = start(alloc, row.journal.as_bytes())?;
     let served = serve_line(alloc, &mut server, row.line, row.text);
     let left = server.node.durable.disk.bytes();
-    match came_of(row, served, begun(row.journal), left) {
+    match came_of(row.line, row.is_kept, served, begun(row.journal), left) {
         Some(well) => Some(well),
         None => second(alloc, serves_again(alloc, row, left)),
     }
