@@ -41,6 +41,7 @@ use Rattle.la_wire.specs.Writable.{IsId, IsOp, IsVoteless, IsQuery, IsCall, IsMe
 use Rattle.la_wire.proofs.Decimals.{number-decimal, decimal-plain, is_plain, IsPlain}
 use Rattle.la_wire.proofs.Joins.{words-back}
 use Rattle.la_wire.proofs.Ids.{tags-back}
+use Rattle.la_wire.proofs.Typed.{typed-op}
 use Rattle.la_wire.proofs.UpdatesBack.{op-plain}
 use Rattle.la_wire.proofs.MessagesBack.{message-back, standing-back, standing-plain}
 
@@ -268,7 +269,7 @@ submit-back r o does is =
     (Submit r o does) refl refl
     (words-back (spelling keyword.Submit) (decimal r ∷ decimal o ∷ op_words does)
     (AllPass-from_list_all is_plain (spelling keyword.Submit) refl)
-    (front-plain r o is.0 is.1 (op_words does) (op-plain does is.2)))
+    (front-plain r o is.0 is.1 (op_words does) (op-plain does (typed-op does is.2))))
     (submit-event r o is.0 is.1 does is.2 is.3) refl
 
 decide-back : (r c v : ℕ) → IsCall (Decide r c v) → call_of (call_line_text (Decide r c v)) ≡ Ok (Decide r c v)
@@ -306,15 +307,18 @@ receive-line : (line : List ℕ) (k : Kind) → first_kind line ≡ Some k → b
 unfolding call_of
 receive-line line k first other = rw (other, first) refl
 
-receive-back : (m : WireMessage) → IsMessage m → call_of (message_text m) ≡ Ok (Receive m)
-receive-back m is =
+-- a message's line is read as one
+pub received : (m : WireMessage) → call_of (message_text m) ≡ made Receive (line_message (message_text m))
+received m =
     let a : List ℕ =
     decimal m.replicas
     ++ spaced 32
     (decimal m.from ∷ decimal m.to ∷ decimal m.instance ∷ decimal m.ballot ∷ progress_words m.progress ++ base_words m.body) in
     let b : List ℕ = spaced 59 (map update_text (carried m.body)) in
     receive-line (message_text m) (kind_in m.body) (kind-first (kind_in m.body) a b) (kind-no_tick (kind_in m.body) a b)
-    ∙ ap (made Receive) (message-back m is)
+
+pub receive-back : (m : WireMessage) → IsMessage m → call_of (message_text m) ≡ Ok (Receive m)
+receive-back m is = received m ∙ ap (made Receive) (message-back m is)
 
 known-line : (line : List ℕ) → first_kind line ≡ None → bytes_eq line tick_word ≡ false → is_known line ≡ true
     → call_of line ≡ known_call line

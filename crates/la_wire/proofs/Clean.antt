@@ -19,8 +19,9 @@ use Rattle.la_wire.specs.MessageLines.{kind_text as kind_word, kind_in, progress
 use Rattle.la_wire.specs.MessageLines.{head_words, message_text, known_word, standing_words}
 use Rattle.la_wire.specs.Calls.{WireCall, Submit, Decide, Ask, Tick, Receive, Known}
 use Rattle.la_wire.specs.CallLines.{query_words, tick_word, call_line_text, is_clean_byte, is_no_mark, may_stand}
-use Rattle.la_wire.specs.Writable.{IsUpdate, IsCall, IsMessage}
+use Rattle.la_wire.specs.Writable.{IsUpdateFrom, IsTypedMessage, IsCall}
 use Rattle.la_wire.proofs.Decimals.{is_plain, IsPlain}
+use Rattle.la_wire.proofs.Typed.{typed-op, typed-message}
 use Rattle.la_wire.proofs.UpdatesBack.{update-plain, op-plain}
 use Rattle.la_wire.proofs.MessagesBack.{head-plain, carried-updates, standing-plain}
 use Rattle.la_wire.proofs.CallsBack.{front-plain, decide-plain, query-plain}
@@ -65,16 +66,16 @@ clean (b ∷ w) printed =
     ap (λ is. is && list_all is_clean_byte w) (is-clean b (leb-true 32 b (All-head (λ c. leb 32 c ≡ true) b w printed)))
     ∙ clean w (All-tail (λ c. leb 32 c ≡ true) b w printed)
 
-update-printed : (u : Update) → IsUpdate u → IsPrinted (update_text u)
+update-printed : (u : Update) → IsUpdateFrom 0 u → IsPrinted (update_text u)
 update-printed u is = words-printed (update_words u) (update-plain u is)
 
-message-printed : (m : WireMessage) → IsMessage m → IsPrinted (message_text m)
+message-printed : (m : WireMessage) → IsTypedMessage m → IsPrinted (message_text m)
 message-printed m is =
     let us = carried m.body in
     joined-printed 59 (joined_by 32 (head_words m) ∷ map update_text us) refl
     (All-cons IsPrinted (joined_by 32 (head_words m)) (map update_text us) (words-printed (head_words m) (head-plain m
     is))
-    (All-map IsPrinted update_text us (All-weaker IsUpdate (λ u. IsPrinted (update_text u)) update-printed us
+    (All-map IsPrinted update_text us (All-weaker (IsUpdateFrom 0) (λ u. IsPrinted (update_text u)) update-printed us
     (carried-updates m.body is.body))))
 
 keyword-words : (word : List ℕ) (words : List (List ℕ)) → IsPlain word → All IsPlain words
@@ -85,7 +86,7 @@ text-printed : (c : WireCall) → IsCall c → IsPrinted (call_line_text c)
 text-printed (Submit r o does) is =
     keyword-words (spelling keyword.Submit) (decimal r ∷ decimal o ∷ op_words does)
     (AllPass-from_list_all is_plain (spelling keyword.Submit) refl)
-    (front-plain r o is.0 is.1 (op_words does) (op-plain does is.2))
+    (front-plain r o is.0 is.1 (op_words does) (op-plain does (typed-op does is.2)))
 text-printed (Decide r c v) is =
     keyword-words (spelling keyword.Decide) (decimal r ∷ decimal c ∷ decimal v ∷ [])
     (AllPass-from_list_all is_plain (spelling keyword.Decide) refl) (decide-plain r c v is)
@@ -94,7 +95,7 @@ text-printed (Ask r o q) is =
     (AllPass-from_list_all is_plain (spelling keyword.Ask) refl)
     (front-plain r o is.0 is.1 (query_words q) (query-plain q is.2))
 text-printed Tick is = plain-printed tick_word (AllPass-from_list_all is_plain tick_word refl)
-text-printed (Receive m) is = message-printed m is
+text-printed (Receive m) is = message-printed m (typed-message m is)
 text-printed (Known s) is =
     keyword-words known_word (standing_words s) (AllPass-from_list_all is_plain known_word refl) (standing-plain s is)
 

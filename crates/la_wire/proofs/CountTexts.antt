@@ -11,7 +11,7 @@ use Rattle.std.proofs.lemmas.List.Splits.{slice_split-cons_no, slice_split_first
 use Rattle.std.proofs.lemmas.Option.{slice_get-get_or}
 use Rattle.la_set.specs.declared.counts.Counts.{Counts}
 use Rattle.la_set.specs.Counts.{count_in, from_counts}
-use Rattle.la_set.proofs.lemmas.Counting.{count_in-known, eight-counts, same_counts}
+use Rattle.la_set.proofs.lemmas.Counting.{count_in-known, count_in-past, eight-counts, same_counts}
 use Rattle.la_script.specs.Numbers.{u32_max, number}
 use Rattle.la_script.proofs.lemmas.{found_before, found_after}
 use Rattle.la_wire.specs.declared.error.LineFault.{LineFault}
@@ -106,14 +106,14 @@ written_number c u r few lt =
 all_written : (c : Counts) (u r : ℕ) → u ≤ 8 → u ≤ r → drop r (take u (numbers_in c)) ≡ []
 all_written c u r few le = drop_all r (take u (numbers_in c)) (omega (arith, le, length-take-le u (numbers_in c) few))
 
-abbrev written : Counts → List ℕ
+abbrev pub written : Counts → List ℕ
 written c = take (used c) (numbers_in c)
 
-used-low : (c : Counts) → 1 ≤ used c
+pub used-low : (c : Counts) → 1 ≤ used c
 unfolding used
 used-low c = used-some c 7
 
-used-high : (c : Counts) → used c ≤ 8
+pub used-high : (c : Counts) → used c ≤ 8
 unfolding used
 used-high c = used-few c 7
 
@@ -146,6 +146,34 @@ written_last c r out all le so_far =
     sym (append-nil out)
     ∙ ap (λ ns. out ++ spaced 44 (map decimal ns)) (sym (all_written c (used c) r (used-high c) le))
     ∙ so_far
+
+-- ## In the range of their type
+
+pub first_typed : (c : Counts) (n : ℕ) → n ≡ count_in c 0 → n ≤ u32_max → (r : ℕ) → r < 1 → count_in c r ≤ u32_max
+first_typed c n e few r lt =
+    let first : 0 ≡ r = omega (arith, lt) in
+    subst (λ q. count_in c q ≤ u32_max) first (subst (λ k. k ≤ u32_max) e few)
+
+pub next_typed : (c : Counts) (s n : ℕ) → n ≡ count_in c s → n ≤ u32_max → ((r : ℕ) → r < s → count_in c r ≤ u32_max)
+    → (r : ℕ) → r < s + 1 → count_in c r ≤ u32_max
+next_typed c s n e few so_far r lt = elim (cases_eq r s) [
+  | inl is ↦ subst (λ q. count_in c q ≤ u32_max) (sym is) (subst (λ k. k ≤ u32_max) e few)
+  | inr other ↦ so_far r (omega (arith, lt, other))
+]
+
+-- those that are not written are 0
+pub all_typed : (c : Counts) (s : ℕ) → length c.of ≡ 8 → used c ≤ s → ((r : ℕ) → r < s → count_in c r ≤ u32_max)
+    → IsCounts c
+all_typed c s eight le so_far = record { eight = eight; each = each }
+  where
+    each : (r : ℕ) → count_in c r ≤ u32_max
+    each r = elim (cases_lt r s) [
+      | inl here ↦ so_far r here
+      | inr past ↦ elim (cases_lt r 8) [
+        | inl lt ↦ omega (arith, used-past c r (omega (arith, le, past)) lt)
+        | inr above ↦ omega (arith, count_in-past c r above)
+      ]
+    ]
 
 -- ## As they are read
 
@@ -254,7 +282,7 @@ numbers-few c is =
     All-from_get_or (λ n. n ≤ u32_max) (numbers_in c) 0
     (λ r lt. subst (λ n. n ≤ u32_max) (sym (number-at c r (omega (arith, lt)))) (is.each r))
 
-written-few : (c : Counts) → IsCounts c → All (λ n. n ≤ u32_max) (written c)
+pub written-few : (c : Counts) → IsCounts c → All (λ n. n ≤ u32_max) (written c)
 written-few c is = All-take (λ n. n ≤ u32_max) (used c) (numbers_in c) (numbers-few c is)
 
 parts-of : (c : Counts) → IsCounts c → parted 44 (counts_text c) ≡ map decimal (written c)

@@ -12,14 +12,15 @@ use Rattle.la_script.specs.Numbers.{u8_max, u32_max, number}
 use Rattle.la_script.specs.Words.{each_word}
 use Rattle.la_script.specs.Tags.{tag_in, tag_of, with_tags, tag_words}
 use Rattle.la_script.specs.Text.{id_text}
-use Rattle.la_wire.specs.Writable.{IsId}
+use Rattle.la_wire.specs.Writable.{IsIdFrom, IsId}
+use Rattle.la_wire.proofs.Typed.{typed-id}
 use Rattle.la_wire.proofs.Decimals.{number-decimal, decimal-plain, decimal-no_stop, is_plain, IsPlain}
 use Rattle.la_wire.proofs.Joins.{before-first, after-first}
 
-id-text : (id : UpdateId) → id_text id ≡ decimal id.replica ++ 46 ∷ decimal id.number
+pub id-text : (id : UpdateId) → id_text id ≡ decimal id.replica ++ 46 ∷ decimal id.number
 id-text id = append_assoc (decimal id.replica) (46 ∷ []) (decimal id.number)
 
-pub id-plain : (id : UpdateId) → IsId id → IsPlain (id_text id)
+pub id-plain : (id : UpdateId) → IsIdFrom 0 id → IsPlain (id_text id)
 id-plain id is =
     let one = decimal-plain id.replica (omega (arith, is.replica)) in
     let two = decimal-plain id.number (omega (arith, is.number)) in
@@ -30,13 +31,18 @@ id-plain id is =
 tag-numbers : (a b : List ℕ) (r n : ℕ) → number 0 u8_max a ≡ Some r → number 1 u32_max b ≡ Some n → tag_in a b ≡ Some (record { replica = r; number = n })
 tag-numbers a b r n e f = rw (e, f) refl
 
-pub id-back : (id : UpdateId) → IsId id → tag_of (id_text id) ≡ Some id
-id-back id is =
+-- the two numbers of an id
+pub id-parts : (id : UpdateId) → IsIdFrom 0 id → tag_of (id_text id) ≡ tag_in (decimal id.replica) (decimal id.number)
+id-parts id is =
     let stop = decimal-no_stop id.replica (omega (arith, is.replica)) in
     ap tag_of (id-text id)
     ∙ (λ i.
     tag_in (before-first 46 (decimal id.replica) (decimal id.number) refl stop i)
     (after-first 46 (decimal id.replica) (decimal id.number) refl stop i))
+
+pub id-back : (id : UpdateId) → IsId id → tag_of (id_text id) ≡ Some id
+id-back id is =
+    id-parts id (typed-id id is)
     ∙ tag-numbers (decimal id.replica) (decimal id.number) id.replica id.number
     (number-decimal 0 u8_max id.replica (omega arith) is.replica (omega arith))
     (number-decimal 1 u32_max id.number is.some is.number (omega arith))

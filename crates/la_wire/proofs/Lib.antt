@@ -1,5 +1,6 @@
 pub mod Decimals
 pub mod Joins
+pub mod Typed
 pub mod Ids
 pub mod UpdatesBack
 pub mod CountTexts
@@ -7,6 +8,9 @@ pub mod UpdateLists
 pub mod MessagesBack
 pub mod CallsBack
 pub mod Clean
+pub mod ReadOrNot
+pub mod Lengths
 pub mod ScriptCalls
 pub mod Tests
 pub mod AlikeLetters
+pub mod RequestLines

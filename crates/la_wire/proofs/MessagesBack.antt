@@ -11,16 +11,17 @@ use Rattle.la_wire.specs.declared.messages.Header.{Header}
 use Rattle.la_wire.specs.declared.messages.Kind.{Kind}
 use Rattle.la_wire.specs.declared.messages.Kind.TheVariants as kind
 use Rattle.la_wire.specs.Joined.{joined_by}
-use Rattle.la_wire.specs.Readings.{first_number}
+use Rattle.la_wire.specs.Readings.{◌>>=◌, first_number}
 use Rattle.la_wire.specs.Updates.{update_text}
 use Rattle.la_wire.specs.Messages.{WireMessage, WireBody, Offer, Yes, No, Tell}
 use Rattle.la_wire.specs.MessageLines.{kind_text, has_word, view_word, base_word, counts_text, progress_words}
 use Rattle.la_wire.specs.MessageLines.{kind_in, base_words, carried, head_words, message_text, kind_word}
-use Rattle.la_wire.specs.MessageLines.{message_header, progress_in, base_on, body_in, message_at, message_in}
+use Rattle.la_wire.specs.MessageLines.{message_header, progress_in, base_on, body_in, message_at, message_in, letter}
 use Rattle.la_wire.specs.MessageLines.{message_of_parts, line_message, standing_words, standing_in}
-use Rattle.la_wire.specs.Writable.{IsUpdate, IsCounts, IsBody, IsMessage, IsStanding}
+use Rattle.la_wire.specs.Writable.{IsUpdateFrom, IsBodyFrom, IsCounts, IsBody, IsMessage, IsTypedMessage, IsStanding}
 use Rattle.la_wire.proofs.Decimals.{number-decimal, decimal-plain, is_plain, IsPlain}
 use Rattle.la_wire.proofs.Joins.{words-back, words-part, parts-back}
+use Rattle.la_wire.proofs.Typed.{typed-message}
 use Rattle.la_wire.proofs.UpdatesBack.{updates-back, updates-parts}
 use Rattle.la_wire.proofs.CountTexts.{counts-back, counts-plain}
 
@@ -31,13 +32,13 @@ first-back low high n rest l h few = rw (number-decimal low high n l h few) refl
 abbrev header_of : WireMessage → Header
 header_of m = record { replicas = m.replicas; from = m.from; to = m.to; instance = m.instance; ballot = m.ballot }
 
-header-back : (m : WireMessage) (rest : List (List ℕ)) → IsMessage m
+header-back : (m : WireMessage) (rest : List (List ℕ)) → 1 ≤ m.replicas → m.replicas ≤ 8 → IsTypedMessage m
     → message_header (decimal m.replicas ∷ decimal m.from ∷ decimal m.to ∷ decimal m.instance ∷ decimal m.ballot ∷ rest)
     ≡ Ok (header_of m, rest)
 unfolding message_header
-header-back m rest is =
+header-back m rest some few is =
     rw (
-      number-decimal 1 8 m.replicas is.some is.few (omega arith),
+      number-decimal 1 8 m.replicas some few (omega arith),
       number-decimal 0 u8_max m.from (omega arith) is.from (omega arith),
       number-decimal 0 u8_max m.to (omega arith) is.to (omega arith),
       number-decimal 0 u8_max m.instance (omega arith) is.instance (omega arith),
@@ -49,7 +50,7 @@ progress-back : (p : Progress) (rest : List (List ℕ)) → IsCounts p.accepted 
 unfolding progress_in
 progress-back p rest has view = rw (counts-back p.accepted has, counts-back p.view view) refl
 
-base-back : (c : Counts) → IsCounts c → base_on (base_word ∷ counts_text c ∷ []) ≡ Ok c
+pub base-back : (c : Counts) → IsCounts c → base_on (base_word ∷ counts_text c ∷ []) ≡ Ok c
 unfolding base_on
 base-back c is = rw (counts-back c is) refl
 
@@ -61,17 +62,22 @@ body-back Yes is = refl
 body-back (No base more) is = rw (base-back base is.0, updates-back more is.1) refl
 body-back (Tell base more) is = rw (base-back base is.0, updates-back more is.1) refl
 
-message-parts : (m : WireMessage) → IsMessage m
-    → message_at (kind_in m.body)
-    (decimal m.replicas ∷ decimal m.from ∷ decimal m.to ∷ decimal m.instance ∷ decimal m.ballot
-    ∷ progress_words m.progress ++ base_words m.body)
-    (map update_text (carried m.body)) ≡ Ok m
-unfolding message_at
-message-parts m is =
+-- the words behind the kind
+unfoldable pub behind : WireMessage → List (List ℕ)
+behind m =
+    decimal m.replicas ∷ decimal m.from ∷ decimal m.to ∷ decimal m.instance ∷ decimal m.ballot
+    ∷ progress_words m.progress ++ base_words m.body
+
+-- what is left to read of a message whose group's size can be had
+pub body-left : (m : WireMessage) → 1 ≤ m.replicas → m.replicas ≤ 8 → IsTypedMessage m
+    → message_at (kind_in m.body) (behind m) (map update_text (carried m.body))
+    ≡ (body_in (kind_in m.body) (base_words m.body) (map update_text (carried m.body))
+    >>= (λ body. Ok (letter (header_of m) m.progress body)))
+unfolding message_at behind
+body-left m some few is =
     rw (
-      header-back m (progress_words m.progress ++ base_words m.body) is,
+      header-back m (progress_words m.progress ++ base_words m.body) some few is,
       progress-back m.progress (base_words m.body) is.accepted is.view,
-      body-back m.body is.body,
     ) refl
 
 -- ## How far a replica is
@@ -118,19 +124,19 @@ labelled label c words first is rest =
 base-plain-of : (c : Counts) → IsCounts c → All IsPlain (base_word ∷ counts_text c ∷ [])
 base-plain-of c is = labelled base_word c [] (AllPass-from_list_all is_plain base_word refl) is (All-nil IsPlain)
 
-base-plain : (body : WireBody) → IsBody body → All IsPlain (base_words body)
+base-plain : (body : WireBody) → IsBodyFrom 0 body → All IsPlain (base_words body)
 base-plain (Offer base more) is = base-plain-of base is.0
 base-plain Yes is = All-nil IsPlain
 base-plain (No base more) is = base-plain-of base is.0
 base-plain (Tell base more) is = base-plain-of base is.0
 
-pub carried-updates : (body : WireBody) → IsBody body → All IsUpdate (carried body)
+pub carried-updates : (body : WireBody) → IsBodyFrom 0 body → All (IsUpdateFrom 0) (carried body)
 carried-updates (Offer base more) is = is.1
-carried-updates Yes is = All-nil IsUpdate
+carried-updates Yes is = All-nil (IsUpdateFrom 0)
 carried-updates (No base more) is = is.1
 carried-updates (Tell base more) is = is.1
 
-progress-plain : (m : WireMessage) → IsMessage m → All IsPlain (progress_words m.progress ++ base_words m.body)
+progress-plain : (m : WireMessage) → IsTypedMessage m → All IsPlain (progress_words m.progress ++ base_words m.body)
 progress-plain m is =
     let rest : List (List ℕ) = base_words m.body in
     labelled has_word m.progress.accepted (view_word ∷ counts_text m.progress.view ∷ rest)
@@ -138,12 +144,7 @@ progress-plain m is =
     (labelled view_word m.progress.view rest (AllPass-from_list_all is_plain view_word refl) is.view
     (base-plain m.body is.body))
 
-behind : WireMessage → List (List ℕ)
-behind m =
-    decimal m.replicas ∷ decimal m.from ∷ decimal m.to ∷ decimal m.instance ∷ decimal m.ballot
-    ∷ progress_words m.progress ++ base_words m.body
-
-behind-plain : (m : WireMessage) → IsMessage m → All IsPlain (behind m)
+behind-plain : (m : WireMessage) → IsTypedMessage m → All IsPlain (behind m)
 unfolding behind
 behind-plain m is =
     let w5 : List (List ℕ) = progress_words m.progress ++ base_words m.body in
@@ -165,15 +166,16 @@ standing-plain s is =
     (AllPass-from_list_all is_plain has_word refl) is.accepted
     (labelled view_word s.progress.view [] (AllPass-from_list_all is_plain view_word refl) is.view (All-nil IsPlain)))))
 
-pub head-plain : (m : WireMessage) → IsMessage m → All IsPlain (head_words m)
+pub head-plain : (m : WireMessage) → IsTypedMessage m → All IsPlain (head_words m)
 unfolding behind
 head-plain m is =
     All-cons IsPlain (kind_text (kind_in m.body)) (behind m) (kind-plain (kind_in m.body)) (behind-plain m is)
 
--- what is written of a message is read as it
-pub message-back : (m : WireMessage) → IsMessage m → line_message (message_text m) ≡ Ok m
+-- what is read of a message's line
+pub line-read : (m : WireMessage) → IsTypedMessage m
+    → line_message (message_text m) ≡ message_at (kind_in m.body) (behind m) (map update_text (carried m.body))
 unfolding behind
-message-back m is =
+line-read m is =
     let first = kind-plain (kind_in m.body) in
     let rest = behind-plain m is in
     ap message_of_parts
@@ -184,4 +186,11 @@ message-back m is =
     (words-back (kind_text (kind_in m.body)) (behind m) first rest)
     ∙ in-back (kind_text (kind_in m.body)) (kind_in m.body) (behind m) (map update_text (carried m.body))
     (kind-back (kind_in m.body))
-    ∙ message-parts m is
+
+-- what is written of a message is read as it
+pub message-back : (m : WireMessage) → IsMessage m → line_message (message_text m) ≡ Ok m
+message-back m is =
+    let typed = typed-message m is in
+    line-read m typed
+    ∙ body-left m is.some is.few typed
+    ∙ ap (λ r. r >>= (λ body. Ok (letter (header_of m) m.progress body))) (body-back m.body is.body)

@@ -1,8 +1,10 @@
 -- Updates that are read one after another, and parts that are written so.
-use Rattle.std.proofs.Common.{◌≡◌, ℕ, zero, suc, ◌+◌, ◌<◌, List, [], ◌∷◌, ◌++◌, drop, map, Some, ◌∙◌, Ok, Err, Result}
-use Rattle.std.proofs.Common.{refl, sym, ap, append_assoc, arith}
+use Rattle.std.proofs.Common.{◌≡◌, ℕ, zero, suc, ◌+◌, ◌<◌, List, [], ◌∷◌, ◌++◌, take, drop, map, Some}
+use Rattle.std.proofs.Common.{◌∙◌, Ok, Err, Result, refl, sym, ap, append_assoc, arith, ◌≤◌, length, subst, All}
 use Rattle.std.specs.Fmt.{decimal}
 use Rattle.std.specs.List.{slice_get}
+use Rattle.std.proofs.lemmas.List.{take_all}
+use Rattle.std.proofs.lemmas.List.Elements.{All-nil, All-cons, All-head, All-tail}
 use Rattle.std.proofs.lemmas.Option.{none-some, same_Some}
 use Rattle.la_set.specs.declared.counts.Counts.{Counts}
 use Rattle.la_set.specs.Counts.{count_in}
@@ -49,3 +51,24 @@ put_next byte f xs k x before after all got is so_far =
     ∙ append_assoc before (byte ∷ f x) (spaced byte (map f (drop (k + 1) xs)))
     ∙ ap (λ bytes. before ++ bytes) (sym (next_part byte f xs k x got))
     ∙ so_far
+
+-- ## What has been written so far
+
+one_further : {A : Type 0} (P : A → Type 0) (xs : List A) (k : ℕ) (x : A) → slice_get xs k ≡ Some x → P x
+    → All P (take k xs) → All P (take (suc k) xs)
+one_further P [] k x got is all = absurd (none-some x got)
+one_further P (y ∷ xs) zero x got is all = All-cons P y [] (subst P (sym (same_Some y x got)) is) (All-nil P)
+one_further P (y ∷ xs) (suc k) x got is all =
+    All-cons P y (take (suc k) xs) (All-head P y (take k xs) all)
+    (one_further P xs k x got is (All-tail P y (take k xs) all))
+
+-- one more element
+pub one_more : {A : Type 0} (P : A → Type 0) (xs : List A) (k : ℕ) (x : A) → slice_get xs k ≡ Some x → P x
+    → All P (take k xs) → All P (take (k + 1) xs)
+one_more P xs k x got is all =
+    let e : suc k ≡ k + 1 = omega arith in
+    subst (λ n. All P (take n xs)) e (one_further P xs k x got is all)
+
+-- and all of them
+pub all_of : {A : Type 0} (P : A → Type 0) (xs : List A) (k : ℕ) → length xs ≤ k → All P (take k xs) → All P xs
+all_of P xs k le all = subst (All P) (take_all k xs le) all

@@ -15,10 +15,12 @@ use Rattle.la_script.specs.Text.{id_text}
 use Rattle.la_wire.specs.declared.updates.Verb.{Verb}
 use Rattle.la_wire.specs.declared.updates.Verb.TheVariants as verb
 use Rattle.la_wire.specs.Joined.{parted}
+use Rattle.la_wire.specs.Readings.{◌>>=◌}
 use Rattle.la_wire.specs.Updates.{update_words, verb_spelling, vote_verb, op_words, update_text, line_tags, op_at, op_in, update_in, updates_in}
-use Rattle.la_wire.specs.Writable.{IsId, IsOp, IsUpdate}
+use Rattle.la_wire.specs.Writable.{IsIdFrom, IsOpFrom, IsUpdateFrom, IsId, IsOp, IsUpdate}
 use Rattle.la_wire.proofs.Decimals.{number-decimal, decimal-plain, is_plain, IsPlain}
 use Rattle.la_wire.proofs.Joins.{Lacks, words-back, words-part}
+use Rattle.la_wire.proofs.Typed.{typed-update}
 use Rattle.la_wire.proofs.Ids.{id-plain, id-back, tags-back}
 
 tags_at-back : (tags : List UpdateId) → length tags ≤ 64 → tag_words (map id_text tags) ≡ Some tags
@@ -37,10 +39,13 @@ op-back Mark is = refl
 op-back (Vote x true) is = rw (number-decimal 0 u64_max x (omega arith) is (omega arith)) refl
 op-back (Vote x false) is = rw (number-decimal 0 u64_max x (omega arith) is (omega arith)) refl
 
-update-parts : (name object : List ℕ) (words : List (List ℕ)) (u : Update) → tag_of name ≡ Some u.id
-    → number 0 u16_max object ≡ Some u.object → op_in words ≡ Ok u.op → update_in (name ∷ object ∷ words) ≡ Ok u
+-- an update whose id and object are read
+pub update-parts : (name object : List ℕ) (words : List (List ℕ)) (u : Update) → tag_of name ≡ Some u.id
+    → number 0 u16_max object ≡ Some u.object
+    → update_in (name ∷ object ∷ words)
+    ≡ (op_in words >>= (λ does. Ok (record { id = u.id; object = u.object; op = does })))
 unfolding update_in
-update-parts name object words u a b c = rw (a, b, c) refl
+update-parts name object words u a b = rw (a, b) refl
 
 -- ## Words without a byte that parts
 
@@ -59,40 +64,52 @@ verb-plain verb.Mark = AllPass-from_list_all is_plain (verb_spelling verb.Mark) 
 verb-plain verb.Vote = AllPass-from_list_all is_plain (verb_spelling verb.Vote) refl
 verb-plain verb.Sole = AllPass-from_list_all is_plain (verb_spelling verb.Sole) refl
 
-pub op-plain : (op : Op) → IsOp op → All IsPlain (op_words op)
+pub op-plain : (op : Op) → IsOpFrom 0 op → All IsPlain (op_words op)
 op-plain (Inc x) is = one-number (verb_spelling verb.Inc) x (verb-plain verb.Inc) (omega arith)
 op-plain (Dec x) is = one-number (verb_spelling verb.Dec) x (verb-plain verb.Dec) (omega arith)
 op-plain (Raise x) is = one-number (verb_spelling verb.Raise) x (verb-plain verb.Raise) is
 op-plain (Put x) is = one-number (verb_spelling verb.Put) x (verb-plain verb.Put) is
 op-plain (Remove tags) is =
     All-cons IsPlain (verb_spelling verb.Remove) (map id_text tags) (verb-plain verb.Remove)
-    (All-map IsPlain id_text tags (All-weaker IsId (λ id. IsPlain (id_text id)) id-plain tags is.1))
+    (All-map IsPlain id_text tags (All-weaker (IsIdFrom 0) (λ id. IsPlain (id_text id)) id-plain tags is.1))
 op-plain Mark is = All-cons IsPlain (verb_spelling verb.Mark) [] (verb-plain verb.Mark) (All-nil IsPlain)
 op-plain (Vote x sole) is = one-number (verb_spelling (vote_verb sole)) x (verb-plain (vote_verb sole)) is
 
-rest-plain : (u : Update) → IsUpdate u → All IsPlain (decimal u.object ∷ op_words u.op)
+rest-plain : (u : Update) → IsUpdateFrom 0 u → All IsPlain (decimal u.object ∷ op_words u.op)
 rest-plain u is =
     All-cons IsPlain (decimal u.object) (op_words u.op) (decimal-plain u.object (omega (arith, is.object)))
     (op-plain u.op is.op)
 
-pub update-plain : (u : Update) → IsUpdate u → All IsPlain (update_words u)
+pub update-plain : (u : Update) → IsUpdateFrom 0 u → All IsPlain (update_words u)
 update-plain u is =
     All-cons IsPlain (id_text u.id) (decimal u.object ∷ op_words u.op) (id-plain u.id is.id) (rest-plain u is)
 
-pub update-part : (u : Update) → IsUpdate u → Lacks 59 (update_text u)
+pub update-part : (u : Update) → IsUpdateFrom 0 u → Lacks 59 (update_text u)
 update-part u is = words-part (id_text u.id) (decimal u.object ∷ op_words u.op) (id-plain u.id is.id) (rest-plain u is)
+
+-- the words of its part
+pub update-line : (u : Update) → IsUpdateFrom 0 u → parted 32 (update_text u) ≡ update_words u
+update-line u is = words-back (id_text u.id) (decimal u.object ∷ op_words u.op) (id-plain u.id is.id) (rest-plain u is)
+
+-- what is left to read of one whose id can be had
+pub op-left : (u : Update) → IsUpdateFrom 0 u → IsId u.id
+    → update_in (parted 32 (update_text u))
+    ≡ (op_in (op_words u.op) >>= (λ does. Ok (record { id = u.id; object = u.object; op = does })))
+op-left u is id =
+    ap update_in (update-line u is)
+    ∙ update-parts (id_text u.id) (decimal u.object) (op_words u.op) u (id-back u.id id)
+    (number-decimal 0 u16_max u.object (omega arith) is.object (omega arith))
 
 pub update-back : (u : Update) → IsUpdate u → update_in (parted 32 (update_text u)) ≡ Ok u
 update-back u is =
-    ap update_in (words-back (id_text u.id) (decimal u.object ∷ op_words u.op) (id-plain u.id is.id) (rest-plain u is))
-    ∙ update-parts (id_text u.id) (decimal u.object) (op_words u.op) u (id-back u.id is.id)
-    (number-decimal 0 u16_max u.object (omega arith) is.object (omega arith)) (op-back u.op is.op)
+    op-left u (typed-update u is) is.id
+    ∙ ap (λ r. r >>= (λ does. Ok (record { id = u.id; object = u.object; op = does }))) (op-back u.op is.op)
 
 pub updates-back : (us : List Update) → All IsUpdate us → updates_in (map update_text us) ≡ Ok us
 updates-back [] all = refl
 updates-back (u ∷ us) all =
     rw (update-back u (All-head IsUpdate u us all), updates-back us (All-tail IsUpdate u us all)) refl
 
-pub updates-parts : (us : List Update) → All IsUpdate us → All (Lacks 59) (map update_text us)
+pub updates-parts : (us : List Update) → All (IsUpdateFrom 0) us → All (Lacks 59) (map update_text us)
 updates-parts us all =
-    All-map (Lacks 59) update_text us (All-weaker IsUpdate (λ u. Lacks 59 (update_text u)) update-part us all)
+    All-map (Lacks 59) update_text us (All-weaker (IsUpdateFrom 0) (λ u. Lacks 59 (update_text u)) update-part us all)

@@ -5,6 +5,7 @@ pub mod Messages
 pub mod MessageLines
 pub mod Calls
 pub mod CallLines
+pub mod Requests
 pub mod Writable
 pub mod Tests
 pub mod Notes

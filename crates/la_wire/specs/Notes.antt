@@ -15,6 +15,7 @@ use Rattle.la_wire.specs.declared.error.LineFault.TheVariants as line
 use Rattle.la_wire.specs.Joined.{spaced}
 use Rattle.la_wire.specs.Messages.{letter_message}
 use Rattle.la_wire.specs.MessageLines.{count_words, message_text, standing_text}
+use Rattle.la_wire.specs.Requests.{name_words}
 
 -- ## Notes
 
@@ -22,13 +23,18 @@ use Rattle.la_wire.specs.MessageLines.{count_words, message_text, standing_text}
 abbrev pub note : (own : ℕ) → List (List ℕ) → List ℕ
 note own words = codes "# r" ++ decimal own ++ spaced 32 words ++ 10 ∷ []
 
+-- what answers a request, with its name behind it
+abbrev pub answering_note : (own : ℕ) → (name : List ℕ) → List (List ℕ) → List ℕ
+answering_note own name words = note own (words ++ name_words name)
+
 -- its update with this number was submitted
-abbrev pub submitted_note : (own number : ℕ) → List ℕ
-submitted_note own number = note own (codes "submitted" ∷ id_text (record { replica = own; number = number }) ∷ [])
+abbrev pub submitted_note : (own number : ℕ) → (name : List ℕ) → List ℕ
+submitted_note own number name =
+    answering_note own name (codes "submitted" ∷ id_text (record { replica = own; number = number }) ∷ [])
 
 -- its value was proposed to an adopt-commit object
-abbrev pub proposed_note : (own commit : ℕ) → List ℕ
-proposed_note own commit = note own (codes "proposed" ∷ decimal commit ∷ [])
+abbrev pub proposed_note : (own commit : ℕ) → (name : List ℕ) → List ℕ
+proposed_note own commit name = answering_note own name (codes "proposed" ∷ decimal commit ∷ [])
 
 -- in an instance the set of a ballot was learnt, which has so many updates of each replica
 abbrev pub learnt_note : (own instance ballot : ℕ) → Counts → List ℕ
@@ -48,12 +54,13 @@ abbrev pub outcome_note : (own commit : ℕ) → Outcome → List ℕ
 outcome_note own commit o = note own (codes "outcome" ∷ decimal commit ∷ outcome_word o ∷ decimal (value_of o) ∷ [])
 
 -- an object on its shelf answered this
-abbrev pub answered_note : (own object : ℕ) → Answer → List ℕ
-answered_note own object answer = note own (codes "answered" ∷ decimal object ∷ answer_text answer ∷ [])
+abbrev pub answered_note : (own object : ℕ) → Answer → (name : List ℕ) → List ℕ
+answered_note own object answer name =
+    answering_note own name (codes "answered" ∷ decimal object ∷ answer_text answer ∷ [])
 
--- the line with this number, from 1, was refused
-abbrev pub refused_note : (own number : ℕ) → (name : List ℕ) → List ℕ
-refused_note own number name = note own (codes "refused" ∷ decimal number ∷ name ∷ [])
+-- the line with this number, from 1, was refused for this
+abbrev pub refused_note : (own number : ℕ) → (why name : List ℕ) → List ℕ
+refused_note own number why name = answering_note own name (codes "refused" ∷ decimal number ∷ why ∷ [])
 
 abbrev pub fault_name : LineFault → List ℕ
 fault_name line.TooLong = codes "TooLong"
@@ -61,8 +68,9 @@ fault_name line.BadLine = codes "BadLine"
 fault_name line.BadNumber = codes "BadNumber"
 
 -- what is told on standard error of a line that has a fault
-abbrev pub line_fault_line : (number : ℕ) → LineFault → List ℕ
-line_fault_line number fault = codes "line " ++ decimal number ++ codes ": " ++ fault_name fault ++ 10 ∷ []
+abbrev pub line_fault_line : (number : ℕ) → LineFault → (name : List ℕ) → List ℕ
+line_fault_line number fault name =
+    codes "line " ++ decimal number ++ codes ": " ++ fault_name fault ++ spaced 32 (name_words name) ++ 10 ∷ []
 
 -- ## Letters
 

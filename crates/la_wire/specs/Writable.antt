@@ -15,46 +15,73 @@ use Rattle.la_object.specs.declared.query.Query.TheVariants as query
 use Rattle.la_wire.specs.Messages.{WireMessage, WireBody, Offer, Yes, No, Tell}
 use Rattle.la_wire.specs.Calls.{WireCall, Submit, Decide, Ask, Tick, Receive, Known}
 
-pub record IsId (id : UpdateId) : Type 0 where
+-- a number from least on
+pub record IsIdFrom (least : ℕ) (id : UpdateId) : Type 0 where
   pub replica : id.replica ≤ u8_max
-  pub some : 1 ≤ id.number
+  pub some : least ≤ id.number
   pub number : id.number ≤ u32_max
 
-abbrev pub IsOp : Op → Type 0
-IsOp (Inc x) = x ≤ u32_max
-IsOp (Dec x) = x ≤ u32_max
-IsOp (Raise x) = x ≤ u64_max
-IsOp (Put x) = x ≤ u64_max
-IsOp (Remove tags) = IsTags tags × All IsId tags
-IsOp Mark = Unit {0}
-IsOp (Vote x sole) = x ≤ u64_max
+-- and so in each of its tags
+abbrev pub IsOpFrom : (least : ℕ) → Op → Type 0
+IsOpFrom least (Inc x) = x ≤ u32_max
+IsOpFrom least (Dec x) = x ≤ u32_max
+IsOpFrom least (Raise x) = x ≤ u64_max
+IsOpFrom least (Put x) = x ≤ u64_max
+IsOpFrom least (Remove tags) = IsTags tags × All (IsIdFrom least) tags
+IsOpFrom least Mark = Unit {0}
+IsOpFrom least (Vote x sole) = x ≤ u64_max
 
-pub record IsUpdate (u : Update) : Type 0 where
-  pub id : IsId u.id
+pub record IsUpdateFrom (least : ℕ) (u : Update) : Type 0 where
+  pub id : IsIdFrom least u.id
   pub object : u.object ≤ u16_max
-  pub op : IsOp u.op
+  pub op : IsOpFrom least u.op
 
 -- eight numbers
 pub record IsCounts (c : Counts) : Type 0 where
   pub eight : length c.of ≡ 8
   pub each : (r : ℕ) → count_in c r ≤ u32_max
 
-abbrev pub IsBody : WireBody → Type 0
-IsBody (Offer base more) = IsCounts base × All IsUpdate more
-IsBody Yes = Unit {0}
-IsBody (No base more) = IsCounts base × All IsUpdate more
-IsBody (Tell base more) = IsCounts base × All IsUpdate more
+abbrev pub IsBodyFrom : (least : ℕ) → WireBody → Type 0
+IsBodyFrom least (Offer base more) = IsCounts base × All (IsUpdateFrom least) more
+IsBodyFrom least Yes = Unit {0}
+IsBodyFrom least (No base more) = IsCounts base × All (IsUpdateFrom least) more
+IsBodyFrom least (Tell base more) = IsCounts base × All (IsUpdateFrom least) more
 
-pub record IsMessage (m : WireMessage) : Type 0 where
-  pub some : 1 ≤ m.replicas
-  pub few : m.replicas ≤ 8
+-- a group of a size from least to most, and ids with numbers from least on
+pub record IsMessageFrom (least most : ℕ) (m : WireMessage) : Type 0 where
+  pub some : least ≤ m.replicas
+  pub few : m.replicas ≤ most
   pub from : m.from ≤ u8_max
   pub to : m.to ≤ u8_max
   pub instance : m.instance ≤ u8_max
   pub ballot : m.ballot ≤ u32_max
   pub accepted : IsCounts m.progress.accepted
   pub view : IsCounts m.progress.view
-  pub body : IsBody m.body
+  pub body : IsBodyFrom least m.body
+
+-- ## What has numbers from 1, and a group of at most 8
+
+abbrev pub IsId : UpdateId → Type 0
+IsId id = IsIdFrom 1 id
+
+abbrev pub IsOp : Op → Type 0
+IsOp op = IsOpFrom 1 op
+
+abbrev pub IsUpdate : Update → Type 0
+IsUpdate u = IsUpdateFrom 1 u
+
+abbrev pub IsBody : WireBody → Type 0
+IsBody body = IsBodyFrom 1 body
+
+abbrev pub IsMessage : WireMessage → Type 0
+IsMessage m = IsMessageFrom 1 8 m
+
+-- ## What the types of a letter give
+
+abbrev pub IsTypedMessage : WireMessage → Type 0
+IsTypedMessage m = IsMessageFrom 0 u8_max m
+
+-- ## What a node is called for
 
 pub record IsStanding (s : Standing) : Type 0 where
   pub some : 1 ≤ s.replicas
@@ -68,6 +95,11 @@ pub record IsStanding (s : Standing) : Type 0 where
 abbrev pub IsVoteless : Op → Type 0
 IsVoteless (Vote x sole) = ⊥
 IsVoteless _ = Unit {0}
+
+-- no remove, which names tags
+abbrev pub IsTagless : Op → Type 0
+IsTagless (Remove tags) = ⊥
+IsTagless _ = Unit {0}
 
 abbrev pub IsQuery : Query → Type 0
 IsQuery (query.AtLeast x) = x ≤ u64_max

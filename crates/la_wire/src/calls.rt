@@ -113,7 +113,7 @@ fn script_call(alloc: Global, line: &[u8]) -> Result<Call, LineError>
 }
 
 // Whether a line's first word is `known`.
-fn is_known(line: &[u8]) -> bool
+pub(crate) fn is_known(line: &[u8]) -> bool
     ensures { result ≡ is_known line.now }
 {
     let (first, _) = split_once(line, b' ');
@@ -132,7 +132,7 @@ fn read_known(alloc: Global, line: &[u8]) -> Result<Call, LineError>
 }
 
 // The kind of message that a line's first word is.
-fn first_kind(line: &[u8]) -> Option<Kind>
+pub(crate) fn first_kind(line: &[u8]) -> Option<Kind>
     ensures { result ≡ first_kind line.now }
 {
     let (first, _) = split_once(line, b' ');

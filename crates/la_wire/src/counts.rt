@@ -3,6 +3,7 @@ ghost use Rattle.std.specs.Prelude.{◌≡◌, ◌≤◌, ◌==◌, ◌++◌, �
 ghost use Rattle.std.specs.Fmt.{decimal};
 ghost use Rattle.la_wire.specs.Joined.{parted};
 ghost use Rattle.la_wire.specs.MessageLines.{used, counts_text, counts_with, counts_on, texts_left};
+ghost use Rattle.la_wire.specs.Writable.{IsCounts};
 
 use crate::LineFault;
 use crate::words::number_at;
@@ -34,7 +35,8 @@ fn put_behind(out: &mut Vec<u8>, number: u32) -> Result<(), AllocError>
 
 /// Writes counts as one word.
 pub fn put_counts_text(out: &mut Vec<u8>, counts: Counts) -> Result<(), AllocError>
-    ensures { OnOk result (out.new.items ≡ out.old.items ++ counts_text counts) }
+    ensures exact { OnOk result (out.new.items ≡ out.old.items ++ counts_text counts) }
+    ensures typed { OnOk result (IsCounts counts) }
 {
     put_decimal(out, u64::from(counts.of(0)))?;
     let many = used(counts);

@@ -1,22 +1,53 @@
 // What the definitions mean: laws over every call, which no code runs.
-ghost use Rattle.std.specs.Prelude.{◌≡◌, ◌↔◌, true, Some, IsTrue};
+ghost use Rattle.std.specs.Prelude.{◌≡◌, ◌≤◌, ◌+◌, ◌*◌, ◌↔◌, ◌∷◌, ◌++◌, ℕ, List, true, false, length, All, Some, Ok, IsTrue};
 ghost use Rattle.la_replica.specs.Parcels.{AreAlikeParcels};
 ghost use Rattle.la_node.specs.declared.link.Letter.{Letter};
-ghost use Rattle.la_wire.specs.Messages.{letter_message};
-ghost use Rattle.la_wire.specs.Calls.{WireCall};
-ghost use Rattle.la_wire.specs.CallLines.{call_line_text, named_call, may_stand};
-ghost use Rattle.la_wire.specs.Writable.{IsCall};
+ghost use Rattle.la_io.specs.Limits.{is_too_long};
+ghost use Rattle.la_wire.specs.Messages.{WireMessage, letter_message};
+ghost use Rattle.la_wire.specs.MessageLines.{carried, message_text};
+ghost use Rattle.la_wire.specs.Calls.{WireCall, Receive};
+ghost use Rattle.la_wire.specs.CallLines.{call_line_text, named_call, bounded_call_of, may_stand};
+ghost use Rattle.la_wire.specs.Writable.{IsCall, IsMessage, IsTypedMessage, IsTagless};
 ghost use Rattle.la_wire.specs.Tests.{is_call};
+ghost use Rattle.la_wire.specs.Requests.{has_no_at, is_name, is_of_peer, asked_in, nameless};
 
 /// What is written of a call names that call.
 pub fn calls_are_read_back()
     ensures { (c : WireCall) → IsCall c → named_call (call_line_text c) ≡ Some c }
 {}
 
+/// A line that was written of a letter says that letter, or none at all: it is never read as another one. The letter
+/// need not be one that can be had: its numbers are in the ranges of their types, and no more.
+pub fn letters_are_read_back_or_not()
+    ensures { (m n : WireMessage) → IsTypedMessage m → named_call (message_text m) ≡ Some (Receive n) → n ≡ m }
+{}
+
+/// The line of a letter has at most 320 bytes, and 1,000 more for each update that it carries, or 48 where no update
+/// is a remove. So with up to 268,000 updates it is not too long to be read, and read as it was written.
+pub fn lines_of_letters_have_bounds()
+    ensures any { (m : WireMessage) → IsTypedMessage m
+        → length (message_text m) ≤ 320 + 1000 * length (carried m.body) }
+    ensures tagless { (m : WireMessage) → IsTypedMessage m → All (λ u. IsTagless u.op) (carried m.body)
+        → length (message_text m) ≤ 320 + 48 * length (carried m.body) }
+    ensures taken { (m : WireMessage) → IsTypedMessage m → length (carried m.body) ≤ 268000
+        → is_too_long (message_text m) ≡ false }
+    ensures back { (m : WireMessage) → IsMessage m → length (carried m.body) ≤ 268000
+        → bounded_call_of (message_text m) ≡ Ok (Receive m) }
+{}
+
 /// What is written of a call may stand in a file of lines: it has no byte 0 and no line's end, and does not begin
 /// with `=` or `~`.
 pub fn calls_may_stand_in_files()
     ensures { (c : WireCall) → IsCall c → may_stand (call_line_text c) ≡ true }
+{}
+
+/// A client's line is read apart as it was put together, of a call without an `@` and of a name; and such a call alone
+/// has no name.
+pub fn requests_are_read_apart()
+    ensures named { (line name : List ℕ) → has_no_at line ≡ true → is_name name ≡ true
+        → is_of_peer (line ++ 32 ∷ 64 ∷ name) ≡ false
+        → asked_in (line ++ 32 ∷ 64 ∷ name) ≡ record { call = line; name = name } }
+    ensures nameless { (line : List ℕ) → has_no_at line ≡ true → asked_in line ≡ nameless line }
 {}
 
 /// Whether a call can be had is a test.

@@ -27,6 +27,7 @@ mod error;
 pub mod laws;
 mod messages;
 mod notes;
+mod requests;
 mod telling;
 mod updates;
 mod words;
@@ -39,5 +40,6 @@ pub use notes::{
     put_answered, put_known_line, put_learnt, put_letter_line, put_outcome, put_proposed,
     put_submitted, put_view,
 };
+pub use requests::{MAX_NAME, Request, request_in};
 pub use telling::{refuse, tell_fault};
 pub use writing::{put_letter, write};

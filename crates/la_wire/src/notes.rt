@@ -1,16 +1,22 @@
 // Lines that a node writes: letters, and notes, which begin with `#`.
 ghost use Rattle.std.specs.Prelude.{◌≡◌, ◌++◌, ◌∷◌, [], codes, OnOk};
 ghost use Rattle.std.specs.Fmt.{decimal};
+ghost use Rattle.la_wire.specs.Messages.{letter_message};
+ghost use Rattle.la_wire.specs.Writable.{IsTypedMessage};
 ghost use Rattle.la_wire.specs.Notes.{outcome_word, message_line, known_line};
 ghost use Rattle.la_wire.specs.Notes.{submitted_note, proposed_note, learnt_note, view_note};
 ghost use Rattle.la_wire.specs.Notes.{outcome_note, answered_note};
+ghost use Rattle.la_wire.specs.Joined.{spaced};
+ghost use Rattle.la_wire.specs.Requests.{name_words};
 
-use crate::writing::{put_counts, put_decimal, put_letter, put_number, put_standing, put_word};
+use crate::writing::{
+    put_counts, put_decimal, put_letter, put_number, put_standing, put_tag, put_word,
+};
 use crate::{Letter, Standing};
 use la_commit::Outcome;
 use la_object::Answer;
 use la_script::{Pieces, put_answer};
-use la_set::Counts;
+use la_set::{Counts, UpdateId};
 use std::alloc::{AllocError, Global};
 
 // Begins a note of a replica's with a word.
@@ -29,23 +35,42 @@ fn put_end(out: &mut Vec<u8>) -> Result<(), AllocError>
     Ok(())
 }
 
-/// Notes that an update was submitted, by its number. After a refusal a part of the note may stand there.
-pub fn put_submitted(out: &mut Vec<u8>, own: u8, number: u32) -> Result<(), AllocError>
-    ensures { OnOk result (out.new.items ≡ out.old.items ++ submitted_note own number) }
+// Writes the name of a request behind what answers it, where it has one.
+fn put_name(out: &mut Vec<u8>, name: &str) -> Result<(), AllocError>
+    ensures { OnOk result (out.new.items ≡ out.old.items ++ spaced 32 (name_words name.now)) }
+{
+    if name.is_empty() {
+        return Ok(());
+    }
+    out.extend_from_slice(b" @")?;
+    out.extend_from_slice(name.as_bytes())
+}
+
+/// Notes that an update was submitted, by its number, in answer to a request of this name. After a refusal a part of
+/// the note may stand there.
+pub fn put_submitted(out: &mut Vec<u8>, own: u8, number: u32, name: &str) -> Result<(), AllocError>
+    ensures { OnOk result (out.new.items ≡ out.old.items ++ submitted_note own number name.now) }
 {
     put_front(out, own, b"submitted")?;
-    put_number(out, u64::from(own))?;
-    out.push(b'.')?;
-    put_decimal(out, u64::from(number))?;
+    put_tag(
+        out,
+        UpdateId {
+            replica: own,
+            number,
+        },
+    )?;
+    put_name(out, name)?;
     put_end(out)
 }
 
-/// Notes that a value was proposed to an object. After a refusal a part of the note may stand there.
-pub fn put_proposed(out: &mut Vec<u8>, own: u8, commit: u8) -> Result<(), AllocError>
-    ensures { OnOk result (out.new.items ≡ out.old.items ++ proposed_note own commit) }
+/// Notes that a value was proposed to an object, in answer to a request of this name. After a refusal a part of the
+/// note may stand there.
+pub fn put_proposed(out: &mut Vec<u8>, own: u8, commit: u8, name: &str) -> Result<(), AllocError>
+    ensures { OnOk result (out.new.items ≡ out.old.items ++ proposed_note own commit name.now) }
 {
     put_front(out, own, b"proposed")?;
     put_number(out, u64::from(commit))?;
+    put_name(out, name)?;
     put_end(out)
 }
 
@@ -111,15 +136,16 @@ fn put_pieces(out: &mut Vec<u8>, pieces: &Pieces) -> Result<(), AllocError>
     Ok(())
 }
 
-/// Notes what an object answered. After a refusal a part of the note may stand there.
+/// Notes what an object answered, to a request of this name. After a refusal a part of the note may stand there.
 pub fn put_answered(
     alloc: Global,
     out: &mut Vec<u8>,
     own: u8,
     object: u16,
     answer: &Answer,
+    name: &str,
 ) -> Result<(), AllocError>
-    ensures { OnOk result (out.new.items ≡ out.old.items ++ answered_note own object answer.now) }
+    ensures { OnOk result (out.new.items ≡ out.old.items ++ answered_note own object answer.now name.now) }
 {
     let mut pieces = Pieces::new(alloc);
     put_answer(&mut pieces, answer)?;
@@ -127,12 +153,15 @@ pub fn put_answered(
     put_number(out, u64::from(object))?;
     out.push(b' ')?;
     put_pieces(out, &pieces)?;
+    put_name(out, name)?;
     put_end(out)
 }
 
-/// Writes a letter as a line, with the line's end. After a refusal a part of it may stand there.
+/// Writes a letter as a line, with the line's end. After a refusal a part of it may stand there. A letter that was
+/// written is in the ranges of its types.
 pub fn put_letter_line(out: &mut Vec<u8>, letter: &Letter) -> Result<(), AllocError>
-    ensures { OnOk result (out.new.items ≡ out.old.items ++ message_line letter.now) }
+    ensures exact { OnOk result (out.new.items ≡ out.old.items ++ message_line letter.now) }
+    ensures typed { OnOk result (IsTypedMessage (letter_message letter.now)) }
 {
     put_letter(out, letter)?;
     put_end(out)

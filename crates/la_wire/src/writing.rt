@@ -1,6 +1,8 @@
 // Letters, written as lines.
-ghost use Rattle.std.specs.Prelude.{◌≡◌, ◌++◌, ◌∷◌, [], map, IfOk, OnOk};
+ghost use Rattle.std.specs.Prelude.{◌≡◌, ◌≤◌, ◌++◌, ◌∷◌, [], map, All, IfOk, OnOk};
 ghost use Rattle.std.specs.Fmt.{decimal};
+ghost use Rattle.la_set.specs.Tags.{IsTags};
+ghost use Rattle.la_script.specs.Numbers.{u8_max, u32_max};
 ghost use Rattle.la_script.specs.Text.{id_text};
 ghost use Rattle.la_wire.specs.Joined.{spaced, joined_by};
 ghost use Rattle.la_wire.specs.Updates.{op_words, update_text};
@@ -10,6 +12,7 @@ ghost use Rattle.la_wire.specs.MessageLines.{kind_text, kind_in, progress_words,
 ghost use Rattle.la_wire.specs.Updates.{verb_spelling};
 ghost use Rattle.la_wire.specs.Calls.{called};
 ghost use Rattle.la_wire.specs.CallLines.{query_words, call_line_text};
+ghost use Rattle.la_wire.specs.Writable.{IsIdFrom, IsOpFrom, IsUpdateFrom, IsBodyFrom, IsCounts, IsTypedMessage};
 
 use crate::counts::put_counts_text;
 use crate::messages::{KNOWN, Kind};
@@ -45,7 +48,8 @@ pub(crate) fn put_number(out: &mut Vec<u8>, number: u64) -> Result<(), AllocErro
 }
 
 fn put_id(out: &mut Vec<u8>, id: UpdateId) -> Result<(), AllocError>
-    ensures { OnOk result (out.new.items ≡ out.old.items ++ id_text id) }
+    ensures exact { OnOk result (out.new.items ≡ out.old.items ++ id_text id) }
+    ensures typed { OnOk result (IsIdFrom 0 id) }
 {
     put_decimal(out, u64::from(id.replica))?;
     out.push(b'.')?;
@@ -53,15 +57,17 @@ fn put_id(out: &mut Vec<u8>, id: UpdateId) -> Result<(), AllocError>
 }
 
 // Writes an id behind other words.
-fn put_tag(out: &mut Vec<u8>, tag: UpdateId) -> Result<(), AllocError>
-    ensures { OnOk result (out.new.items ≡ out.old.items ++ 32 ∷ id_text tag) }
+pub(crate) fn put_tag(out: &mut Vec<u8>, tag: UpdateId) -> Result<(), AllocError>
+    ensures exact { OnOk result (out.new.items ≡ out.old.items ++ 32 ∷ id_text tag) }
+    ensures typed { OnOk result (IsIdFrom 0 tag) }
 {
     out.push(b' ')?;
     put_id(out, tag)
 }
 
 fn put_tags(out: &mut Vec<u8>, tags: &Tags) -> Result<(), AllocError>
-    ensures { OnOk result (out.new.items ≡ out.old.items ++ spaced 32 (map id_text tags.now)) }
+    ensures exact { OnOk result (out.new.items ≡ out.old.items ++ spaced 32 (map id_text tags.now)) }
+    ensures typed { OnOk result (IsTags tags.now × All (IsIdFrom 0) tags.now) }
 {
     for place in 0..tags.len() {
         let Some(tag) = tags.at(place) else {
@@ -82,7 +88,8 @@ fn put_verb(out: &mut Vec<u8>, verb: Verb, number: u64) -> Result<(), AllocError
 }
 
 fn put_op(out: &mut Vec<u8>, op: &Op) -> Result<(), AllocError>
-    ensures { OnOk result (out.new.items ≡ out.old.items ++ spaced 32 (op_words op.now)) }
+    ensures exact { OnOk result (out.new.items ≡ out.old.items ++ spaced 32 (op_words op.now)) }
+    ensures typed { OnOk result (IsOpFrom 0 op.now) }
 {
     match op {
         Op::Inc(by) => put_verb(out, Verb::Inc, u64::from(*by)),
@@ -100,7 +107,8 @@ fn put_op(out: &mut Vec<u8>, op: &Op) -> Result<(), AllocError>
 
 // Writes an update as a part behind others.
 fn put_update(out: &mut Vec<u8>, update: &Update) -> Result<(), AllocError>
-    ensures { OnOk result (out.new.items ≡ out.old.items ++ 59 ∷ update_text update.now) }
+    ensures exact { OnOk result (out.new.items ≡ out.old.items ++ 59 ∷ update_text update.now) }
+    ensures typed { OnOk result (IsUpdateFrom 0 update.now) }
 {
     out.push(b';')?;
     put_id(out, update.id)?;
@@ -109,8 +117,9 @@ fn put_update(out: &mut Vec<u8>, update: &Update) -> Result<(), AllocError>
 }
 
 fn put_delta(out: &mut Vec<u8>, delta: &Delta) -> Result<(), AllocError>
-    ensures { OnOk result
+    ensures exact { OnOk result
         (out.new.items ≡ out.old.items ++ spaced 59 (map update_text delta.now.more)) }
+    ensures typed { OnOk result (All (IsUpdateFrom 0) delta.now.more) }
 {
     for place in 0..delta.len() {
         let Some(update) = delta.at(place) else {
@@ -133,8 +142,9 @@ pub(crate) fn put_counts(out: &mut Vec<u8>, counts: Counts) -> Result<(), AllocE
 
 // Writes counts as one word, behind this one.
 fn put_labelled(out: &mut Vec<u8>, label: &[u8], counts: Counts) -> Result<(), AllocError>
-    ensures { OnOk result
+    ensures exact { OnOk result
         (out.new.items ≡ out.old.items ++ spaced 32 (label.now ∷ counts_text counts ∷ [])) }
+    ensures typed { OnOk result (IsCounts counts) }
 {
     put_word(out, label)?;
     out.push(b' ')?;
@@ -143,9 +153,10 @@ fn put_labelled(out: &mut Vec<u8>, label: &[u8], counts: Counts) -> Result<(), A
 
 // Writes the base, and then the updates.
 fn put_over(out: &mut Vec<u8>, delta: &Delta) -> Result<(), AllocError>
-    ensures { OnOk result (out.new.items ≡ out.old.items
+    ensures exact { OnOk result (out.new.items ≡ out.old.items
         ++ spaced 32 (base_word ∷ counts_text delta.now.base ∷ [])
         ++ spaced 59 (map update_text delta.now.more)) }
+    ensures typed { OnOk result (IsCounts delta.now.base × All (IsUpdateFrom 0) delta.now.more) }
 {
     put_labelled(out, b"base", delta.base())?;
     put_delta(out, delta)
@@ -153,9 +164,10 @@ fn put_over(out: &mut Vec<u8>, delta: &Delta) -> Result<(), AllocError>
 
 // Writes the base and the updates, where there are any.
 fn put_content(out: &mut Vec<u8>, content: &Content) -> Result<(), AllocError>
-    ensures { OnOk result (out.new.items ≡ out.old.items
+    ensures exact { OnOk result (out.new.items ≡ out.old.items
         ++ spaced 32 (base_words (said_content content.now))
         ++ spaced 59 (map update_text (carried (said_content content.now)))) }
+    ensures typed { OnOk result (IsBodyFrom 0 (said_content content.now)) }
 {
     match content {
         Content::Offer(delta) | Content::No(delta) | Content::Tell(delta) => put_over(out, delta),
@@ -176,7 +188,10 @@ fn kind_of(content: &Content) -> Kind
 
 // Writes the kind and the numbers behind it.
 fn put_header(out: &mut Vec<u8>, letter: &Letter) -> Result<(), AllocError>
-    ensures { OnOk result (out.new.items ≡ out.old.items ++ joined_by 32 (header_words (letter_message letter.now))) }
+    ensures exact { OnOk result (out.new.items ≡ out.old.items ++ joined_by 32 (header_words (letter_message letter.now))) }
+    ensures typed { OnOk result ((letter.now.replicas ≤ u8_max)
+        × (letter.now.parcel.from ≤ u8_max) × (letter.now.parcel.to ≤ u8_max)
+        × (letter.now.parcel.instance ≤ u8_max) × (letter.now.parcel.ballot ≤ u32_max)) }
 {
     let parcel = &letter.parcel;
     out.extend_from_slice(kind_of(&parcel.content).spelling())?;
@@ -188,16 +203,19 @@ fn put_header(out: &mut Vec<u8>, letter: &Letter) -> Result<(), AllocError>
 }
 
 fn put_progress(out: &mut Vec<u8>, progress: Progress) -> Result<(), AllocError>
-    ensures { OnOk result (out.new.items ≡ out.old.items ++ spaced 32 (progress_words progress)) }
+    ensures exact { OnOk result (out.new.items ≡ out.old.items ++ spaced 32 (progress_words progress)) }
+    ensures typed { OnOk result (IsCounts progress.accepted × IsCounts progress.view) }
 {
     put_labelled(out, b"has", progress.accepted)?;
     put_labelled(out, b"view", progress.view)
 }
 
 /// Puts the line of a letter behind what is there, without the line's end, at a cost linear in it but for
-/// finding each update. After a refusal a part of it may stand there.
+/// finding each update. After a refusal a part of it may stand there. A letter that was written is in the ranges
+/// of its types.
 pub fn put_letter(out: &mut Vec<u8>, letter: &Letter) -> Result<(), AllocError>
-    ensures { OnOk result (out.new.items ≡ out.old.items ++ message_text (letter_message letter.now)) }
+    ensures exact { OnOk result (out.new.items ≡ out.old.items ++ message_text (letter_message letter.now)) }
+    ensures typed { OnOk result (IsTypedMessage (letter_message letter.now)) }
 {
     put_header(out, letter)?;
     put_progress(out, letter.progress)?;
