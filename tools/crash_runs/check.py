@@ -20,7 +20,7 @@ Entry = tuple[str, int, str]
 # No refusal of a group to whose nodes nobody lies.
 NEVER = ("NoSuchReplica", "NoSuchInstance", "NoBase", "Gap", "Clash", "BallotsSpent", "Memory")
 # What a node comes to where a bit of its journal has flipped.
-TOLD = re.compile(r"status 5, printed b'', said b'BadJournal[^\\]*\\n', kept")
+TOLD = re.compile(r"status 5, printed b'', said b'lattice node: r[0-7]: BadJournal[^\\]*\\n', kept")
 
 
 @dataclass(frozen=True)
@@ -38,8 +38,9 @@ class Seen:
     """What one node has been given and has answered."""
 
     line: int = 0
-    # Lines of this life that have to be answered, in order: their numbers, and their words.
+    # Lines of this life that have to be answered, in order: their numbers, and their words; and the names of requests.
     awaited: deque[tuple[int, list[str]]] = field(default_factory=deque)
+    names: dict[int, str] = field(default_factory=dict)
     # Submissions of which no answer came before a kill, since the last that was answered, and ever.
     lost: list[str] = field(default_factory=list)
     ever_lost: set[str] = field(default_factory=set)
@@ -100,6 +101,7 @@ class Checker:
 
     def take_start(self, own: int, torn: str) -> None:
         self.nodes[own].line, self.nodes[own].passed = 0, True
+        self.nodes[own].names.clear()
         self.nodes[own].hearing.begin()
         self.nodes[own].untold.clear()
         if torn != "0":
@@ -111,13 +113,15 @@ class Checker:
             self.fault("said", own, line)
 
     def take_given(self, own: int, line: str) -> None:
-        node, words = self.nodes[own], line.split(" ")
+        node, (line, _, name) = self.nodes[own], line.partition(" @")
+        words = line.split(" ")
         node.line += 1
+        node.names[node.line] = name
         mine = words[:2] in ([it, str(own)] for it in ("submit", "decide", "ask"))
         here = [str(self.group.replicas), str(own)]
         mailed = words[0] in ("offer", "yes", "no", "tell") and words[1:4:2] == here
         if line in FAULTY:
-            return node.to_say.append(f"line {node.line}: {FAULTY[line]}")
+            return node.to_say.append(f"line {node.line}: {FAULTY[line]}" + (f" @{name}" if name else ""))
         self.hear(own, line)
         node.passed = node.passed and not (mine and words[0] != "ask" or mailed or words == ["tick"])
         if mine:
@@ -174,12 +178,20 @@ class Checker:
         node.passed = node.passed or asked and node.awaited[0][0] == node.line and line.startswith("# r")
         try:
             if line.startswith("#"):
-                word, values = read_note(line, own)
-                getattr(self, f"note_{word}")(own, *values)
+                self.note(own, line)
             else:
                 self.message(own, read_message(line))
         except Malformed as fault:
             self.fault("form", own, f"{fault}: {line}")
+
+    def note(self, own: int, line: str) -> None:
+        """What answers a request ends in its name, and nothing else does."""
+        awaited, (line, _, name) = list(self.nodes[own].awaited), line.partition(" @")
+        word, values = read_note(line, own)
+        getattr(self, f"note_{word}")(own, *values)
+        answered = awaited[: len(awaited) - len(self.nodes[own].awaited)]
+        if name != "".join(self.nodes[own].names[it] for it, _ in answered):
+            self.fault("names", own, f"{line} @{name}")
 
     # What a node answers
 

@@ -88,7 +88,7 @@ class Node:
     def end_of_life(self, word: str, status: str) -> list[str]:
         found = self.lines_of(self.process.stdout.read())
         for line in self.errors.read_text(errors="replace").splitlines():
-            self.note(("said", self.own, line))
+            self.note(("said", self.own, line.removeprefix(f"lattice node: r{self.own}: ")))
         self.note((word, self.own, status))
         self.process.stdin.close()
         self.process.stdout.close()

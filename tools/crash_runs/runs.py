@@ -85,8 +85,14 @@ class Run:
     def drawn_line(self, own: int, what: str) -> str:
         """A line of the workload, for this node."""
         if what == "submit":
-            return f"submit {own} {self.drawn_op()}"
-        return f"ask {own} {self.draw.choice((*QUESTIONS, '8 total'))}" if what == "ask" else what
+            what = f"submit {own} {self.drawn_op()}"
+        elif what == "ask":
+            what = f"ask {own} {self.draw.choice((*QUESTIONS, '8 total'))}"
+        return what + self.drawn_name()
+
+    def drawn_name(self) -> str:
+        """The name of a request behind a line, or none."""
+        return self.draw.choice(("", f" @{self.draw.randint(0, 99)}", " @A.b:c_9-"))
 
     def passed_line(self, own: int) -> str:
         """A line that this node has to pass over, or to tell a fault of."""
@@ -98,7 +104,8 @@ class Run:
         elsewhere += [f"yes {group % 8 + 1} {other} {own} 0 1 {far}", f"known {group % 8 + 1} {other} {own} {far}"]
         elsewhere += [f"ask {other} 1 total", f"known {group} {other} {own} has 0 view 0"]
         elsewhere += self.draw.sample(mail, min(3, len(mail)))
-        return self.draw.choice((*elsewhere, *FAULTY))
+        faulty = [it + self.drawn_name() if it[:3] in ("sub", "tic", "del") else it for it in FAULTY]
+        return self.draw.choice((*elsewhere, *faulty))
 
     # What happens
 
@@ -210,7 +217,7 @@ class Run:
             self.checker.fault("locked", node.own, f"status {done.returncode}, {done.stderr!r}")
         node.end()
         done = node.over(f"submit {node.own} 1 inc 5".encode())
-        if done.returncode or done.stdout or done.stderr != b"line 1: BadLine\n":
+        if done.returncode or done.stdout or done.stderr != f"lattice node: r{node.own}: line 1: BadLine\n".encode():
             self.checker.fault("half", node.own, f"{done.stderr!r}, {done.stdout!r}, status {done.returncode}")
         node.start()
 

@@ -11,6 +11,7 @@ use Rattle.la_wire.specs.CallLines.{named_call}
 use Rattle.la_durable.specs.CallLines.{is_line}
 use Rattle.la_durable.specs.Inputs.{InputState, IsInputRefusal}
 use Rattle.la_wire.specs.Notes.{refused_note, line_fault_line}
+use Rattle.la_wire.specs.Requests.{called_in, name_in}
 use Rattle.la_io.specs.Streams.{TellsLine, TellsAll}
 use Rattle.la_serve.specs.declared.error.NodeFault.{NodeFault}
 use Rattle.la_serve.specs.Io.{Io}
@@ -20,12 +21,12 @@ use Rattle.la_serve.proofs.Taking.{takes_only, takes_more, on_ok_more, if_err_mo
 use Rattle.la_serve.proofs.Turns.{note_turn, fault_turn, starved_turn, call_turn, passed_turn}
 
 -- a call that is passed over
-pub call_passed : (input : InputState) (k : ℕ) (io : Io)
+pub call_passed : (line : List ℕ) (input : InputState) (k : ℕ) (io : Io)
     → is_elsewhere io.state.kept (called input.call) ≡ true
-    → TakesLine (OfCall input IsTurnOf k) TellsNoLine io io
-call_passed input k io is =
-    takes_only Appends (OfCall input IsTurnOf k) io io input.line []
-    (refl, passed_turn io.objects io.state k input.line (called input.call) true refl is) refl refl (Appends-nil io.out)
+    → TakesLine (OfCall line input IsTurnOf k) TellsNoLine io io
+call_passed line input k io is =
+    takes_only Appends (OfCall line input IsTurnOf k) io io line []
+    (refl, passed_turn io.objects io.state k line (called input.call) true refl is) refl refl (Appends-nil io.out)
 
 -- ## A line
 
@@ -49,11 +50,11 @@ module _ {E : Type 0} (heard : E → Option (List ℕ)) (refuses : E → List �
       (refl, note_turn before.objects before.state k line le is) refl refl (Appends-nil before.out))
 
   module _ (is : is_note line ≡ false) where
-    pub fault_taken : (e2 : E) (f : LineFault) → IsInputRefusal line (Fault f)
-        → TellsLine heard refuses e1 e2 (line_fault_line k f)
+    pub fault_taken : (e2 : E) (f : LineFault) → IsInputRefusal (called_in line) (Fault f)
+        → TellsLine heard refuses e1 e2 (line_fault_line k f (name_in line))
         → TakesLine (OfLine line k) (TellsAll heard refuses e1 e2) before before
     fault_taken e2 f refusal t = record {
-      turn = faulty before.state k line f;
+      turn = faulty before.state k line (name_in line) f;
       is = (refl, fault_turn before.objects before.state k line f le is refusal);
       now_is = refl;
       wrote = Appends-nil before.out;
@@ -62,27 +63,27 @@ module _ {E : Type 0} (heard : E → Option (List ℕ)) (refuses : E → List �
     }
 
     pub starved : (Wrote : (before after : Option (List ℕ)) → List ℕ → Type 0) (out : Option (List ℕ))
-        → Wrote before.out out (refused_note (own_of before.state) k (codes "Memory"))
+        → Wrote before.out out (refused_note (own_of before.state) k (codes "Memory") (name_in line))
         → TakesBy Wrote (OfLine line k) (TellsAll heard refuses e1 e1) before (record before { out = out })
     starved Wrote out w =
         silent Wrote (record before { out = out })
         (takes_only Wrote (OfLine line k) before (record before { out = out }) line
-        (refused_note (own_of before.state) k (codes "Memory"))
+        (refused_note (own_of before.state) k (codes "Memory") (name_in line))
         (refl, starved_turn before.objects before.state k line le is) refl refl w)
 
-    module _ (after : Io) (input : InputState) (same : input.line ≡ line)
+    module _ (after : Io) (input : InputState) (same : input.line ≡ called_in line)
         (says : named_call input.line ≡ Some (called input.call)) (stands : is_line input.line ≡ true) where
-      of_call : (t : Turn) → OfCall input IsCallTurn k before after t → OfLine line k before after t
+      of_call : (t : Turn) → OfCall line input IsCallTurn k before after t → OfLine line k before after t
       of_call t i =
           call_turn before.objects before.state k line (called input.call) le is (ap named_call (sym same) ∙ says)
-          (ap is_line (sym same) ∙ stands) t (i.0 ∙ same, i.1)
+          (ap is_line (sym same) ∙ stands) t i
 
       pub ok_line : {T : Type 0} (r : Result T NodeFault)
-          → OnOk r (TakesLine (OfCall input IsCallTurn k) TellsNoLine before after)
+          → OnOk r (TakesLine (OfCall line input IsCallTurn k) TellsNoLine before after)
           → OnOk r (TakesLine (OfLine line k) (TellsAll heard refuses e1 e1) before after)
-      ok_line r x = on_ok_more (OfCall input IsCallTurn k) (OfLine line k) before after of_call tells_none r x
+      ok_line r x = on_ok_more (OfCall line input IsCallTurn k) (OfLine line k) before after of_call tells_none r x
 
       pub err_line : {T : Type 0} (r : Result T NodeFault)
-          → IfErr r (Breaks (OfCall input IsCallTurn k) TellsNoLine before after)
+          → IfErr r (Breaks (OfCall line input IsCallTurn k) TellsNoLine before after)
           → IfErr r (Breaks (OfLine line k) (TellsAll heard refuses e1 e1) before after)
-      err_line r x = if_err_more (OfCall input IsCallTurn k) (OfLine line k) before after of_call tells_none r x
+      err_line r x = if_err_more (OfCall line input IsCallTurn k) (OfLine line k) before after of_call tells_none r x

@@ -29,7 +29,11 @@ use Rattle.la_node.specs.Taking.{Taken, takes, then_votes, vote_due, with_vote, 
 use Rattle.la_node.proofs.lemmas.Tests.{decides-unwraps}
 use Rattle.la_node.proofs.lemmas.Stepping.{some_of}
 use Rattle.la_wire.specs.Messages.{WireMessage, letter_message, said_content}
+use Rattle.la_wire.specs.MessageLines.{message_text}
 use Rattle.la_wire.specs.Calls.{WireCall, Submit, Decide, Ask, Tick, Receive, Known}
+use Rattle.la_wire.specs.CallLines.{named_call}
+use Rattle.la_wire.specs.Requests.{called_in}
+use Rattle.la_wire.specs.Writable.{IsTypedMessage}
 use Rattle.la_durable.specs.CallLines.{CallLine}
 use Rattle.la_durable.specs.Nodes.{acts, node_call, parcel_of, content_of}
 use Rattle.la_durable.specs.Restarts.{LeadBetween, RestartsTakeCalls}
@@ -38,8 +42,8 @@ use Rattle.la_world.specs.Together.{AreTogether, IsOfLetters, IsBrought, LeadBro
 use Rattle.la_world.specs.Together.{CallsKeepTogether, LostCallsKeepTogether, RepeatsKeepTogether}
 use Rattle.la_serve.specs.Turns.{ServerState, Turn, noted_by}
 use Rattle.la_serve.specs.Starting.{newly_started}
-use Rattle.la_serve.specs.Processes.{kept_of_all, AreProcesses, IsHandedLine, NewProcessesAreTogether}
-use Rattle.la_serve.specs.Processes.{TurnsKeepTogether, RestartsKeepTogether}
+use Rattle.la_serve.specs.Processes.{kept_of_all, AreProcesses, IsLineOf, IsHandedCall, IsHandedLine}
+use Rattle.la_serve.specs.Processes.{NewProcessesAreTogether, TurnsKeepTogether, RestartsKeepTogether}
 use Rattle.la_serve.proofs.TurnKinds.{IsQuiet, Repeats, Takes, IsWhat, what}
 
 -- ## What a node reads of a letter
@@ -54,10 +58,18 @@ parcel_read : (letter : Letter) → AreAlikeParcels (parcel_of (letter_message l
 parcel_read letter =
     record { instance = refl; from = refl; to = refl; ballot = refl; content = alike_read letter.parcel.content }
 
-of_letters : (letters : List Letter) (m : WireMessage)
-    → ((letter : Letter) × Contains letters letter × (letter_message letter ≡ m)) → IsOfLetters (parcel_of m) letters
-of_letters letters m (letter, has, is) =
-    (letter, has, subst (λ x. AreAlikeParcels (parcel_of x) letter.parcel) is (parcel_read letter))
+-- a line that was written of a letter is never read as another one
+abbrev LettersAreReadBack : Type 0
+LettersAreReadBack =
+    (m n : WireMessage) → IsTypedMessage m → named_call (message_text m) ≡ Some (Receive n) → n ≡ m
+
+of_letters : LettersAreReadBack → (letters : List Letter) (line : List ℕ) (m : WireMessage)
+    → named_call line ≡ Some (Receive m) → ((letter : Letter) × Contains letters letter × IsLineOf letter line)
+    → IsOfLetters (parcel_of m) letters
+of_letters back letters line m says (letter, has, is) =
+    let same : m ≡ letter_message letter =
+    back (letter_message letter) m is.typed (ap named_call (sym is.text) ∙ says) in
+    (letter, has, subst (λ x. AreAlikeParcels (parcel_of x) letter.parcel) (sym same) (parcel_read letter))
 
 -- ## A call of a line
 
@@ -278,14 +290,16 @@ module _ (nodes : List ServerState) (letters : List Letter) (learnt : List Learn
         own = owns_on t.after (ap (λ (s : ReplicaState). s.own) kept ∙ own);
       }
 
-  took_on : CallsKeepTogether → (t : Turn) → Takes n t → IsHandedLine letters r t.line
+  took_on : CallsKeepTogether → LettersAreReadBack → (t : Turn) → Takes n t → IsHandedLine letters r t.line
       → AreProcesses (slice_set nodes r t.after) (letters ++ t.sent) (learnt ++ t.learnt)
-  took_on calls t it handed =
+  took_on calls back t it handed =
       let given = it.taken.given in
       let does = call_of_line n.kept it.call (given, t.after.kept) it.taken.acted in
       let so = brought letters r n.kept own does.0 (accepted n.kept does.0 (given, t.after.kept) does.2).0 it.call
       does.1
-      (λ m same to. of_letters letters m (handed m (it.says ∙ ap Some same) to)) in
+      (λ m same to.
+      let says : named_call (called_in t.line) ≡ Some (Receive m) = it.says ∙ ap Some same in
+      of_letters back letters (called_in t.line) m says (handed m says to)) in
       record {
         together =
             moved (slice_set (kept_of_all nodes) r t.after.kept) (kept_of_all (slice_set nodes r t.after)) _
@@ -297,35 +311,38 @@ module _ (nodes : List ServerState) (letters : List Letter) (learnt : List Learn
         own = owns_on t.after (own_step n.kept does.0 (given, t.after.kept) does.2 ∙ own);
       }
 
-  turn_on : CallsKeepTogether → RepeatsKeepTogether → (t : Turn) → IsWhat n t → IsHandedLine letters r t.line
+  turn_on : CallsKeepTogether → RepeatsKeepTogether → LettersAreReadBack → (t : Turn) → IsWhat n t
+      → IsHandedLine letters r t.line
       → AreProcesses (slice_set nodes r t.after) (letters ++ t.sent) (learnt ++ t.learnt)
-  turn_on calls again t (inl quiet) handed = quiet_on t quiet
-  turn_on calls again t (inr (inl repeats)) handed = again_on again t repeats
-  turn_on calls again t (inr (inr takes)) handed = took_on calls t takes handed
+  turn_on calls again back t (inl quiet) handed = quiet_on t quiet
+  turn_on calls again back t (inr (inl repeats)) handed = again_on again t repeats
+  turn_on calls again back t (inr (inr takes)) handed = took_on calls back t takes handed
 
-pub turns : CallsKeepTogether → RepeatsKeepTogether → TurnsKeepTogether
-turns calls again nodes letters learnt objects r k n t are at is handed =
-    turn_on nodes letters learnt r n are at calls again t (what objects n k t is) handed
+pub turns : CallsKeepTogether → RepeatsKeepTogether → LettersAreReadBack → TurnsKeepTogether
+turns calls again back nodes letters learnt objects r k n t are at is handed =
+    turn_on nodes letters learnt r n are at calls again back t (what objects n k t is) handed
 
 -- ## Restarts
 
-lead_brought : (letters : List Letter) (r : ℕ) (handed : List CallLine)
-    → ((c : CallLine) → Contains handed c → IsHandedLine letters r c.line) → (calls : List NodeCall)
+lead_brought : LettersAreReadBack → (letters : List Letter) (r : ℕ) (handed : List CallLine)
+    → ((c : CallLine) → Contains handed c → IsHandedCall letters r c.line) → (calls : List NodeCall)
     → (q after : ReplicaState) → q.own ≡ r → LeadBetween handed calls q after
     → LeadBrought letters r calls q after × (after.own ≡ r)
-lead_brought letters r handed may [] q after own is = (is, ap (λ (s : ReplicaState). s.own) (sym is) ∙ own)
-lead_brought letters r handed may (call ∷ calls) q after own is =
+lead_brought back letters r handed may [] q after own is = (is, ap (λ (s : ReplicaState). s.own) (sym is) ∙ own)
+lead_brought back letters r handed may (call ∷ calls) q after own is =
     let made = some_of (λ (x : Given × ReplicaState). x.1) (node_step q call) is.1.0 is.1.1 in
     let so = brought letters r q own call (accepted q call made.0 made.1).0 is.0.says is.0.is
-    (λ m same to. of_letters letters m (may is.0.line is.0.among m (is.0.named ∙ ap Some same) to)) in
+    (λ m same to.
+    let says : named_call is.0.line.line ≡ Some (Receive m) = is.0.named ∙ ap Some same in
+    of_letters back letters is.0.line.line m says (may is.0.line is.0.among m says to)) in
     let next_own = ap (λ (s : ReplicaState). s.own) (sym made.2) ∙ own_step q call made.0 made.1 ∙ own in
-    let rest = lead_brought letters r handed may calls is.1.0 after next_own is.1.2 in
+    let rest = lead_brought back letters r handed may calls is.1.0 after next_own is.1.2 in
     ((so.0, (is.1.0, is.1.1, rest.0)), rest.1)
 
-pub restarts : LostCallsKeepTogether → RestartsTakeCalls → RestartsKeepTogether
-restarts lost takes nodes letters learnt r n start after handed file are at may leads to =
+pub restarts : LostCallsKeepTogether → LettersAreReadBack → RestartsTakeCalls → RestartsKeepTogether
+restarts lost back takes nodes letters learnt r n start after handed file are at may leads to =
     let by = takes start n.kept after handed file leads to in
-    let lead = lead_brought letters r handed may by.0 n.kept after (own nodes letters learnt r n are at) by.1 in
+    let lead = lead_brought back letters r handed may by.0 n.kept after (own nodes letters learnt r n are at) by.1 in
     record {
       together =
           subst (λ ss. AreTogether ss letters learnt) (sym (set_kept nodes r (newly_started after)))

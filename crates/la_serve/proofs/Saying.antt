@@ -21,6 +21,7 @@ use Rattle.la_replica.specs.Again.{again}
 use Rattle.la_replica.specs.Bases.{AreToldIn}
 use Rattle.la_replica.specs.Whole.{whole_mail}
 use Rattle.la_wire.specs.Notes.{letters_text}
+use Rattle.la_wire.specs.Requests.{name_in}
 use Rattle.la_object.specs.declared.kind.Kind.{Kind}
 use Rattle.la_object.specs.declared.query.Query.{Query}
 use Rattle.la_wire.specs.Calls.{WireCall, Ask, Tick, Receive, Known, called}
@@ -37,15 +38,15 @@ use Rattle.la_serve.proofs.Taking.{takes_only}
 
 pub is_answered : (objects : List (ℕ × Kind)) (n : ServerState) (k object : ℕ) (query : Query) (line : List ℕ)
     (s : Said)
-    → IsSaidAnswer (own_of n) object (answer_by objects n.kept object query) s
-    → IsAnsweredTurn objects n k object query (only_writes n line (said_text (own_of n) k s))
+    → IsSaidAnswer (own_of n) object (name_in line) (answer_by objects n.kept object query) s
+    → IsAnsweredTurn objects n k object query (only_writes n line (said_text (own_of n) k (name_in line) s))
 is_answered objects n k object query line (said.Lines text) is =
     inl (ap (only_writes n line) is.2 ∙ ap (question_answered n k object line) (sym is.1))
 is_answered objects n k object query line said.NoSuchObject is = inl (ap (question_answered n k object line) (sym is))
 is_answered objects n k object query line said.Memory is = inr refl
 
 pub is_told_back : (n : ServerState) (k from : ℕ) (line : List ℕ) (s : Said) → IsSaidBack n.kept from s
-    → IsToldBack n k from (only_writes n line (said_text (own_of n) k s))
+    → IsToldBack n k from (only_writes n line (said_text (own_of n) k (name_in line) s))
 is_told_back n k from line (said.Lines text) is = inl (ap (only_writes n line) is)
 is_told_back n k from line said.NoSuchObject is = absurd is
 is_told_back n k from line said.Memory is = inr refl
@@ -57,50 +58,55 @@ is_received n k m t b is stale back =
     subst (λ z. OneOf z (IsToldBack n k m.from t) (IsKeptTurn n k (Receive m) t)) (sym (is ∙ stale)) back
 
 -- it was written
-module _ (Wrote : (before after : Option (List ℕ)) → List ℕ → Type 0) (k : ℕ) (input : InputState) (before after : Io)
-    (s : Said) (same : after.state ≡ before.state) (still : after.journal ≡ before.journal) (own : ℕ)
-    (is_own : own ≡ own_of before.state) (w : Wrote before.out after.out (said_text own k s)) where
+module _ (Wrote : (before after : Option (List ℕ)) → List ℕ → Type 0) (k : ℕ) (line : List ℕ) (input : InputState)
+    (before after : Io) (s : Said) (same : after.state ≡ before.state) (still : after.journal ≡ before.journal)
+    (own : ℕ) (is_own : own ≡ own_of before.state) (name : List ℕ) (is_name : name ≡ name_in line)
+    (w : Wrote before.out after.out (said_text own k name s)) where
   said_taken : (call : WireCall) → called input.call ≡ call
       → IsTurnHere before.objects before.state k call
-      (only_writes before.state input.line (said_text (own_of before.state) k s))
-      → TakesBy Wrote (OfCall input IsTurnHere k) TellsNoLine before after
+      (only_writes before.state line (said_text (own_of before.state) k (name_in line) s))
+      → TakesBy Wrote (OfCall line input IsTurnHere k) TellsNoLine before after
   said_taken call e is =
-      takes_only Wrote (OfCall input IsTurnHere k) before after input.line (said_text (own_of before.state) k s) (
+      let text = said_text (own_of before.state) k (name_in line) s in
+      takes_only Wrote (OfCall line input IsTurnHere k) before after line text (
         refl,
-        subst
-            (λ (x : WireCall).
-            IsTurnHere before.objects before.state k x
-            (only_writes before.state input.line (said_text (own_of before.state) k s))) (sym e) is,
+        subst (λ (x : WireCall). IsTurnHere before.objects before.state k x (only_writes before.state line text))
+            (sym e) is,
       )
-      same still (subst (λ (o : ℕ). Wrote before.out after.out (said_text o k s)) is_own w)
+      same still
+      (subst (λ (o : ℕ). Wrote before.out after.out (said_text o k (name_in line) s)) is_own
+      (subst (λ m. Wrote before.out after.out (said_text own k m s)) is_name w))
 
   pub ask_taken : (replica object : ℕ) (query : Query) → called input.call ≡ Ask replica object query
-      → IsSaidAnswer (own_of before.state) object (answer_by before.objects before.state.kept object query) s
-      → TakesBy Wrote (OfCall input IsTurnHere k) TellsNoLine before after
+      → IsSaidAnswer (own_of before.state) object name (answer_by before.objects before.state.kept object query) s
+      → TakesBy Wrote (OfCall line input IsTurnHere k) TellsNoLine before after
   ask_taken replica object query e is =
       said_taken (Ask replica object query) e
-      (is_answered before.objects before.state k object query input.line s is)
+      (is_answered before.objects before.state k object query line s
+      (subst (λ m. IsSaidAnswer (own_of before.state) object m
+      (answer_by before.objects before.state.kept object query) s) is_name is))
 
   pub back_taken : (m : WireMessage) → called input.call ≡ Receive m → is_stale before.state.kept m ≡ true
-      → IsSaidBack before.state.kept m.from s → TakesBy Wrote (OfCall input IsTurnHere k) TellsNoLine before after
+      → IsSaidBack before.state.kept m.from s → TakesBy Wrote (OfCall line input IsTurnHere k) TellsNoLine before after
   back_taken m e stale is =
       said_taken (Receive m) e
-      (is_received before.state k m (only_writes before.state input.line (said_text (own_of before.state) k s)) true
-      stale refl
-      (is_told_back before.state k m.from input.line s is))
+      (is_received before.state k m
+      (only_writes before.state line (said_text (own_of before.state) k (name_in line) s)) true stale refl
+      (is_told_back before.state k m.from line s is))
 
 -- what waits is sent once more
-module _ (Wrote : (before after : Option (List ℕ)) → List ℕ → Type 0) (k : ℕ) (input : InputState) (before after : Io)
-    (same : after.state ≡ before.state) (still : after.journal ≡ before.journal) (own : ℕ)
-    (is_own : own ≡ own_of before.state) (e : called input.call ≡ Tick) where
+module _ (Wrote : (before after : Option (List ℕ)) → List ℕ → Type 0) (k : ℕ) (line : List ℕ) (input : InputState)
+    (before after : Io) (same : after.state ≡ before.state) (still : after.journal ≡ before.journal) (own : ℕ)
+    (is_own : own ≡ own_of before.state) (name : List ℕ) (is_name : name ≡ name_in line)
+    (e : called input.call ≡ Tick) where
   sent_taken : (text : List ℕ) → Wrote before.out after.out text
       → (mail : List code.Message) → whole_mail mail ≡ again before.state.kept
       → ((offered : Counts) → AreToldIn before.state.kept offered mail)
       → text ≡ letters_text (letters_of before.state.known before.state.kept (filter (is_owed before.state.known) mail))
-      → TakesBy Wrote (OfCall input IsTurnHere k) TellsNoLine before after
+      → TakesBy Wrote (OfCall line input IsTurnHere k) TellsNoLine before after
   sent_taken text w mail whole over is =
       let letters = letters_of before.state.known before.state.kept (filter (is_owed before.state.known) mail) in
-      let turn = only_sends before.state input.line letters in
+      let turn = only_sends before.state line letters in
       record {
         turn = turn;
         is = (
@@ -114,21 +120,21 @@ module _ (Wrote : (before after : Option (List ℕ)) → List ℕ → Type 0) (k
         tells = refl;
       }
 
-  pub tick_taken : (s : Said) → Wrote before.out after.out (said_text own k s)
+  pub tick_taken : (s : Said) → Wrote before.out after.out (said_text own k name s)
       → IsSaidAgain before.state.known before.state.kept s
-      → TakesBy Wrote (OfCall input IsTurnHere k) TellsNoLine before after
+      → TakesBy Wrote (OfCall line input IsTurnHere k) TellsNoLine before after
   tick_taken (said.Lines text) w is = sent_taken text.items w is.0 is.1 is.2 is.3
   tick_taken said.NoSuchObject w is = absurd is
   tick_taken said.Memory w is =
-      said_taken Wrote k input before after said.Memory same still own is_own w Tick e (inr refl)
+      said_taken Wrote k line input before after said.Memory same still own is_own name is_name w Tick e (inr refl)
 
 -- what another is known to have changes nothing else
-pub known_taken : (input : InputState) (k : ℕ) (io : Io) (standing : Standing) → called input.call ≡ Known standing
-    → TakesLine (OfCall input IsTurnHere k) TellsNoLine io io
-known_taken input k io standing e =
-    takes_only Appends (OfCall input IsTurnHere k) io io input.line [] (
+pub known_taken : (line : List ℕ) (input : InputState) (k : ℕ) (io : Io) (standing : Standing)
+    → called input.call ≡ Known standing → TakesLine (OfCall line input IsTurnHere k) TellsNoLine io io
+known_taken line input k io standing e =
+    takes_only Appends (OfCall line input IsTurnHere k) io io line [] (
       refl,
-      subst (λ (x : WireCall). IsTurnHere io.objects io.state k x (only_writes io.state input.line [])) (sym e) refl,
+      subst (λ (x : WireCall). IsTurnHere io.objects io.state k x (only_writes io.state line [])) (sym e) refl,
     )
     refl refl (Appends-nil io.out)
 

@@ -7,6 +7,7 @@ use Rattle.la_io.specs.Limits.{is_too_long}
 use Rattle.la_wire.specs.declared.error.LineFault.TheVariants.{TooLong}
 use Rattle.la_wire.specs.Calls.{WireCall, Submit, Decide, Ask, Tick, Receive, Known}
 use Rattle.la_wire.specs.CallLines.{named_call}
+use Rattle.la_wire.specs.Requests.{called_in, name_in}
 use Rattle.la_durable.specs.CallLines.{is_line}
 use Rattle.la_durable.specs.declared.error.NodeError.TheVariants.{Memory}
 use Rattle.la_node.specs.declared.link.Links.{Links}
@@ -32,8 +33,8 @@ Repeats n t = (known : Links) × IsSentAgain (hearing known n) t
 pub record Takes (n : ServerState) (t : Turn) : Type 0 where
   pub known : Links
   pub call : WireCall
-  pub stands : is_line t.line ≡ true
-  pub says : named_call t.line ≡ Some call
+  pub stands : is_line (called_in t.line) ≡ true
+  pub says : named_call (called_in t.line) ≡ Some call
   pub taken : IsCallTaken (hearing known n) call t
 
 abbrev pub IsWhat : ServerState → Turn → Type 0
@@ -59,14 +60,15 @@ module _ (objects : List (ℕ × Kind)) (n : ServerState) (known : Links) (k : �
   starved : IsStarved m k t → IsWhat n t
   starved is = inl (quiet n t (turn_refused m k t.line Memory) is (refl, refl, refl, refl))
 
-  module _ (call : WireCall) (stands : is_line t.line ≡ true) (says : named_call t.line ≡ Some call) where
+  module _ (call : WireCall) (stands : is_line (called_in t.line) ≡ true)
+      (says : named_call (called_in t.line) ≡ Some call) where
     kept_what : IsKeptTurn m k call t → IsWhat n t
     kept_what (inl taken) =
         inr (inr (record { known = known; call = call; stands = stands; says = says; taken = taken }))
     kept_what (inr not) = inl (quiet n t (turn_refused m k t.line not.why) not.turn (refl, refl, refl, refl))
 
-  here_what : (call : WireCall) → is_line t.line ≡ true → named_call t.line ≡ Some call → IsTurnHere objects m k call t
-      → IsWhat n t
+  here_what : (call : WireCall) → is_line (called_in t.line) ≡ true → named_call (called_in t.line) ≡ Some call
+      → IsTurnHere objects m k call t → IsWhat n t
   here_what (Submit replica object op) stands says is = kept_what (Submit replica object op) stands says is
   here_what (Decide replica commit value) stands says is = kept_what (Decide replica commit value) stands says is
   here_what (Ask replica object query) stands says (inl is) =
@@ -96,13 +98,14 @@ module _ (objects : List (ℕ × Kind)) (n : ServerState) (k : ℕ) (t : Turn) w
   short_what is = elim (one_of (is_note t.line) is) [
     | inl note ↦ inl (quiet n t (only_writes n t.line []) note (refl, refl, refl, refl))
     | inr (inl says) ↦ says_what says
-    | inr (inr (inl has)) ↦ inl (quiet n t (faulty n k t.line has.fault) has.turn (refl, refl, refl, refl))
+    | inr (inr (inl has)) ↦
+        inl (quiet n t (faulty n k t.line (name_in t.line) has.fault) has.turn (refl, refl, refl, refl))
     | inr (inr (inr hungry)) ↦ starved objects n n.known k t hungry
   ]
 
   pub what : IsTurn objects n k t → IsWhat n t
   unfolding IsTurn
   what is = elim (one_of (is_too_long t.line) is) [
-    | inl long ↦ inl (quiet n t (faulty n k t.line TooLong) long (refl, refl, refl, refl))
+    | inl long ↦ inl (quiet n t (faulty n k t.line [] TooLong) long (refl, refl, refl, refl))
     | inr short ↦ short_what short
   ]

@@ -84,9 +84,13 @@ cause_name kind.InvalidFilename = codes "bad path"
 cause_name kind.Unsupported = codes "unsupported"
 cause_name _ = codes "other error"
 
--- the line that tells it
-abbrev pub no_journal_line : ErrorKind → List ℕ
-no_journal_line k = codes "NoJournal: " ++ cause_name k ++ 10 ∷ []
+-- the line that tells it, of this folder
+abbrev pub no_journal_line : (folder : List ℕ) → ErrorKind → List ℕ
+no_journal_line folder k = codes "NoJournal: " ++ folder ++ codes ": " ++ cause_name k ++ 10 ∷ []
+
+-- and where there is no memory for that
+abbrev pub no_journal_short : ErrorKind → List ℕ
+no_journal_short k = codes "NoJournal: " ++ cause_name k ++ 10 ∷ []
 
 -- it took all lines of its input
 pub record ServerEndsWell {D R W E : Type 0} (f : Facts D R W E) (options : Options) (disk final : D)

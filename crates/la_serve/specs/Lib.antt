@@ -4,11 +4,13 @@ pub mod Faults
 pub mod Turns
 pub mod Said
 pub mod Io
+pub mod Asking
 pub mod Giving
 pub mod Reading
 pub mod Serving
 pub mod Crashes
 pub mod Starting
 pub mod Ending
+pub mod Labels
 pub mod Lives
 pub mod Processes

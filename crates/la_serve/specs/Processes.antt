@@ -10,6 +10,9 @@ use Rattle.la_replica.specs.ReplicaState.{ReplicaState}
 use Rattle.la_wire.specs.Messages.{WireMessage, letter_message}
 use Rattle.la_wire.specs.Calls.{Receive}
 use Rattle.la_wire.specs.CallLines.{named_call}
+use Rattle.la_wire.specs.MessageLines.{message_text}
+use Rattle.la_wire.specs.Requests.{called_in}
+use Rattle.la_wire.specs.Writable.{IsTypedMessage}
 use Rattle.la_durable.specs.CallLines.{CallLine}
 use Rattle.la_durable.specs.Nodes.{step}
 use Rattle.la_durable.specs.Restarts.{leads_from}
@@ -29,12 +32,22 @@ pub record AreProcesses (nodes : List ServerState) (letters : List Letter) (lear
   pub together : AreTogether (kept_of_all nodes) letters learnt
   pub own : (r : ℕ) (n : ServerState) → slice_get nodes r ≡ Some n → n.kept.own ≡ r
 
--- A line that replica r may be handed: where it is a message to that one, it says what one of these letters says.
--- Whatever else it is, a client's call or no call at all.
-abbrev pub IsHandedLine : List Letter → (r : ℕ) → (line : List ℕ) → Type 0
-IsHandedLine letters r line =
+-- the line that was written of a letter, whose numbers have the ranges of their types, as `put_letter_line` ensures of
+-- each that it writes
+pub record IsLineOf (letter : Letter) (line : List ℕ) : Type 0 where
+  pub typed : IsTypedMessage (letter_message letter)
+  pub text : line ≡ message_text (letter_message letter)
+
+-- What replica r may be called for: where it is a message to that one, it is byte by byte the line of one of these
+-- letters. Whatever else it is, a client's call or no call at all.
+abbrev pub IsHandedCall : List Letter → (r : ℕ) → (line : List ℕ) → Type 0
+IsHandedCall letters r line =
     (m : WireMessage) → named_call line ≡ Some (Receive m) → m.to ≡ r →
-    (letter : Letter) × Contains letters letter × (letter_message letter ≡ m)
+    (letter : Letter) × Contains letters letter × IsLineOf letter line
+
+-- a line that it may be handed: so is what this calls for, apart from the name of a client's request
+abbrev pub IsHandedLine : List Letter → (r : ℕ) → (line : List ℕ) → Type 0
+IsHandedLine letters r line = IsHandedCall letters r (called_in line)
 
 -- started for the first time
 abbrev pub NewProcessesAreTogether : Type 0
@@ -59,6 +72,6 @@ RestartsKeepTogether =
     (nodes : List ServerState) (letters : List Letter) (learnt : List LearntSet) (r : ℕ) (n : ServerState)
     (start after : ReplicaState) (handed : List CallLine) (file : List ℕ) →
     AreProcesses nodes letters learnt → slice_get nodes r ≡ Some n →
-    ((c : CallLine) → Contains handed c → IsHandedLine letters r c.line) →
+    ((c : CallLine) → Contains handed c → IsHandedCall letters r c.line) →
     LeadsToSome (leads_from start) step handed n.kept file → leads_from start file ≡ Some after →
     AreProcesses (slice_set nodes r (newly_started after)) letters learnt

@@ -16,18 +16,18 @@ use Rattle.la_serve.specs.declared.said.Said.{Said}
 use Rattle.la_serve.specs.declared.said.Said.TheVariants as said
 use Rattle.la_replica.specs.ReplicaState.{ReplicaState}
 
--- what is written, of line k
-abbrev pub said_text : (own k : ℕ) → Said → List ℕ
-said_text own k (said.Lines text) = text.items
-said_text own k said.NoSuchObject = refused_note own k (codes "NoSuchObject")
-said_text own k said.Memory = refused_note own k (codes "Memory")
+-- what is written, of line k, a request of this name
+abbrev pub said_text : (own k : ℕ) → (name : List ℕ) → Said → List ℕ
+said_text own k name (said.Lines text) = text.items
+said_text own k name said.NoSuchObject = refused_note own k (codes "NoSuchObject") name
+said_text own k name said.Memory = refused_note own k (codes "Memory") name
 
 -- an object's answer, or that there is no such object; or there was no memory
-abbrev pub IsSaidAnswer : (own object : ℕ) → Option Answer → Said → Type 0
-IsSaidAnswer own object o (said.Lines text) =
-    (answer : Answer) × (o ≡ Some answer) × (text.items ≡ answered_note own object answer)
-IsSaidAnswer own object o said.NoSuchObject = o ≡ None
-IsSaidAnswer own object o said.Memory = ⊤
+abbrev pub IsSaidAnswer : (own object : ℕ) → (name : List ℕ) → Option Answer → Said → Type 0
+IsSaidAnswer own object name o (said.Lines text) =
+    (answer : Answer) × (o ≡ Some answer) × (text.items ≡ answered_note own object answer name)
+IsSaidAnswer own object name o said.NoSuchObject = o ≡ None
+IsSaidAnswer own object name o said.Memory = ⊤
 
 -- what a shelf of such objects answers by a node's view
 abbrev pub answer_by : List (ℕ × Kind) → ReplicaState → (object : ℕ) → Query → Option Answer

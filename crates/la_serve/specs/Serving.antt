@@ -44,10 +44,10 @@ abbrev pub OfLine : (line : List ℕ) → (k : ℕ) → (before after : Io) → 
 OfLine line k before after t = (t.line ≡ line) × IsTurn before.objects before.state k t
 
 -- of a line that says a call
-abbrev pub OfCall : InputState → (List (ℕ × Kind) → ServerState → (k : ℕ) → WireCall → Turn → Type 0) → (k : ℕ)
-    → (before after : Io) → Turn → Type 0
-OfCall input Is k before after t =
-    (t.line ≡ input.line) × Is before.objects before.state k (called input.call) t
+abbrev pub OfCall : (line : List ℕ) → InputState → (List (ℕ × Kind) → ServerState → (k : ℕ) → WireCall → Turn → Type 0)
+    → (k : ℕ) → (before after : Io) → Turn → Type 0
+OfCall line input Is k before after t =
+    (t.line ≡ line) × Is before.objects before.state k (called input.call) t
 
 -- a line was taken: what it comes to was written so, and is in the journal
 pub record TakesBy (Wrote : (before after : Option (List ℕ)) → List ℕ → Type 0)
@@ -95,7 +95,7 @@ pub record IsTurnStep (k : ℕ) (before after : Io) (t : Turn) : Type 0 where
 -- what is told of bytes behind the last line's end, where there are some
 abbrev pub cut_told : (k : ℕ) → (rest : List ℕ) → List (List ℕ)
 cut_told k [] = []
-cut_told k (b ∷ rest) = line_fault_line k BadLine ∷ []
+cut_told k (b ∷ rest) = line_fault_line k BadLine [] ∷ []
 
 -- the input is at its end, perhaps behind bytes that no line's end follows, and nothing has changed
 pub record InputEnds (k : ℕ) (Told : List (List ℕ) → Type 0) (before after : Io) : Type 0 where

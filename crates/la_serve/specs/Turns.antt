@@ -43,6 +43,7 @@ use Rattle.la_world.specs.LiveGroups.{LearntSet, learnt_set}
 use Rattle.la_serve.specs.Names.{refusal_name}
 use Rattle.la_wire.specs.Notes.{submitted_note, proposed_note, learnt_note, view_note, outcome_note, answered_note}
 use Rattle.la_wire.specs.Notes.{refused_note, line_fault_line, letters_text, known_line}
+use Rattle.la_wire.specs.Requests.{called_in, name_in}
 
 -- what a node stands on as it takes lines: what it keeps, and how far others are, as far as it heard
 pub record ServerState : Type 0 where
@@ -54,18 +55,18 @@ own_of n = n.kept.own
 
 -- ## What is written of a call that is kept
 
-abbrev pub submitted_text : (own : ℕ) → Option ℕ → List ℕ
-submitted_text own None = []
-submitted_text own (Some number) = submitted_note own number
+abbrev pub submitted_text : (own : ℕ) → Option ℕ → (name : List ℕ) → List ℕ
+submitted_text own None name = []
+submitted_text own (Some number) name = submitted_note own number name
 
--- a submission and a proposal are answered
-abbrev pub taken_text : (after : ReplicaState) → WireCall → List ℕ
-taken_text after (Submit replica object op) = submitted_text after.own (submitted_in after 0)
-taken_text after (Decide replica commit value) = proposed_note after.own commit
-taken_text after (Ask replica object query) = []
-taken_text after Tick = []
-taken_text after (Receive m) = []
-taken_text after (Known standing) = []
+-- a submission and a proposal are answered, each by the name of its request
+abbrev pub taken_text : (after : ReplicaState) → WireCall → (name : List ℕ) → List ℕ
+taken_text after (Submit replica object op) name = submitted_text after.own (submitted_in after 0) name
+taken_text after (Decide replica commit value) name = proposed_note after.own commit name
+taken_text after (Ask replica object query) name = []
+taken_text after Tick name = []
+taken_text after (Receive m) name = []
+taken_text after (Known standing) name = []
 
 -- what was learnt by a message of an instance and a ballot
 abbrev pub learnt_line : (own instance ballot : ℕ) → Option Histories → List ℕ
@@ -103,9 +104,11 @@ noted_by own Tick given = []
 noted_by own (Known standing) given = []
 
 -- first the notes, then the messages, in order, each as a letter over what is known of its receiver
-abbrev pub call_text : (before : ℕ) → (known : Links) → (after : ReplicaState) → WireCall → Given → List ℕ
-call_text before known after call given =
-    taken_text after call ++ receipt_text before after call given ++ letters_text (letters_of known after given.mail)
+abbrev pub call_text : (before : ℕ) → (known : Links) → (after : ReplicaState) → WireCall → (name : List ℕ) → Given
+    → List ℕ
+call_text before known after call name given =
+    taken_text after call name ++ receipt_text before after call given
+    ++ letters_text (letters_of known after given.mail)
 
 -- ## Lines that are passed over
 
@@ -149,7 +152,7 @@ pub record Turn : Type 0 where
   -- the letters among that, and the sets that it notes as learnt
   pub sent : List Letter
   pub learnt : List LearntSet
-  -- the lines that the journal gains by it: the line, or none
+  -- the lines that the journal gains by it: the line without the request's name, or none
   pub kept : List (List ℕ)
   -- what is told of it on standard error, line by line
   pub told : List (List ℕ)
@@ -176,18 +179,18 @@ only_sends n line letters =
 
 -- line k was refused for this
 abbrev pub turn_refused : ServerState → (k : ℕ) → (line : List ℕ) → NodeError → Turn
-turn_refused n k line e = only_writes n line (refused_note (own_of n) k (refusal_name e))
+turn_refused n k line e = only_writes n line (refused_note (own_of n) k (refusal_name e) (name_in line))
 
--- line k has this fault: it is told, and nothing is written
-abbrev pub faulty : ServerState → (k : ℕ) → (line : List ℕ) → LineFault → Turn
-faulty n k line fault =
+-- line k, of a request of this name, has this fault: it is told, and nothing is written
+abbrev pub faulty : ServerState → (k : ℕ) → (line : List ℕ) → (name : List ℕ) → LineFault → Turn
+faulty n k line name fault =
     record {
       line = line;
       text = [];
       sent = [];
       learnt = [];
       kept = [];
-      told = line_fault_line k fault ∷ [];
+      told = line_fault_line k fault name ∷ [];
       after = n;
     }
 
@@ -205,10 +208,10 @@ pub record IsCallTaken (n : ServerState) (call : WireCall) (t : Turn) : Type 0 w
   pub given : Given
   pub acted : acts n.kept call ≡ Some (given, t.after.kept)
   pub known : t.after.known ≡ n.known
-  pub written : t.text ≡ call_text (length (updates n.kept.view)) n.known t.after.kept call given
+  pub written : t.text ≡ call_text (length (updates n.kept.view)) n.known t.after.kept call (name_in t.line) given
   pub sent : t.sent ≡ letters_of n.known t.after.kept given.mail
   pub learnt : t.learnt ≡ noted_by n.kept.own call given
-  pub journal : t.kept ≡ kept_unless (leaves_be n.kept t.after.kept call given) t.line
+  pub journal : t.kept ≡ kept_unless (leaves_be n.kept t.after.kept call given) (called_in t.line)
   pub silent : t.told ≡ []
 
 -- or it was refused, and then nothing has changed: where there is memory, exactly where the node has no step
@@ -223,8 +226,10 @@ IsStarved n k t = t ≡ turn_refused n k t.line Memory
 
 -- a question is answered by the view; where there is no such object, this is said
 abbrev pub question_answered : ServerState → (k object : ℕ) → (line : List ℕ) → Option Answer → Turn
-question_answered n k object line None = only_writes n line (refused_note (own_of n) k (codes "NoSuchObject"))
-question_answered n k object line (Some answer) = only_writes n line (answered_note (own_of n) object answer)
+question_answered n k object line None =
+    only_writes n line (refused_note (own_of n) k (codes "NoSuchObject") (name_in line))
+question_answered n k object line (Some answer) =
+    only_writes n line (answered_note (own_of n) object answer (name_in line))
 
 -- by the kinds of the objects on the shelf
 abbrev pub question : List (ℕ × Kind) → ServerState → (k object : ℕ) → Query → (line : List ℕ) → Turn
@@ -291,25 +296,25 @@ IsTurnOf objects n k call t =
 abbrev pub IsCallTurn : List (ℕ × Kind) → ServerState → (k : ℕ) → WireCall → Turn → Type 0
 IsCallTurn objects n k call t = IsTurnOf objects (after_hearing n call) k call t
 
--- a line that says a call, and that a journal may have
+-- a line that says a call, apart from the request's name, and that a journal may have
 pub record SaysCall (objects : List (ℕ × Kind)) (n : ServerState) (k : ℕ) (t : Turn) : Type 0 where
   pub call : WireCall
-  pub says : named_call t.line ≡ Some call
-  pub stands : is_line t.line ≡ true
+  pub says : named_call (called_in t.line) ≡ Some call
+  pub stands : is_line (called_in t.line) ≡ true
   pub turn : IsCallTurn objects n k call t
 
 -- one that has a fault
 pub record HasFault (n : ServerState) (k : ℕ) (t : Turn) : Type 0 where
   pub fault : LineFault
-  pub is : IsInputRefusal t.line (Fault fault)
-  pub turn : t ≡ faulty n k t.line fault
+  pub is : IsInputRefusal (called_in t.line) (Fault fault)
+  pub turn : t ≡ faulty n k t.line (name_in t.line) fault
 
 -- a line that is not too long
 abbrev pub IsShortTurn : List (ℕ × Kind) → ServerState → (k : ℕ) → Turn → Type 0
 IsShortTurn objects n k t =
     OneOf (is_note t.line) (t ≡ only_writes n t.line []) (SaysCall objects n k t ⊎ (HasFault n k t ⊎ IsStarved n k t))
 
--- what line k comes to, where the node keeps this before it
+-- what line k comes to, where the node keeps this before it: of one that is too long no name is known
 unfoldable pub IsTurn : List (ℕ × Kind) → ServerState → (k : ℕ) → Turn → Type 0
 IsTurn objects n k t =
-    OneOf (is_too_long t.line) (t ≡ faulty n k t.line TooLong) (IsShortTurn objects n k t)
+    OneOf (is_too_long t.line) (t ≡ faulty n k t.line [] TooLong) (IsShortTurn objects n k t)

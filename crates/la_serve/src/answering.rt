@@ -1,5 +1,5 @@
 // What a node does with one line.
-ghost use Rattle.std.specs.Prelude.{◌≡◌, true, false, IfErr, OnOk, OnErr};
+ghost use Rattle.std.specs.Prelude.{◌≡◌, ◌≤◌, true, false, length, IfErr, OnOk, OnErr};
 ghost use Rattle.la_io.specs.Streams.{Writes, WritesPrefix};
 ghost use Rattle.la_io.specs.Limits.{is_too_long};
 ghost use Rattle.la_wire.specs.Calls.{called};
@@ -13,6 +13,7 @@ ghost use Rattle.la_object.specs.Shelves.{answer_at};
 ghost use Rattle.la_serve.specs.Said.{said_text, IsSaidAnswer, answer_by, IsSaidAgain, IsSaidBack};
 ghost use Rattle.la_serve.specs.Io.{io_of, TakesLines, OnlyStages};
 ghost use Rattle.la_serve.specs.Serving.{OfLine, OfCall, TakesLine, Breaks, TellsNoLine};
+ghost use Rattle.la_serve.specs.Asking.{IsAskingFor};
 
 use crate::keeping::{Kept, keep};
 use crate::names::refusal_name;
@@ -26,9 +27,17 @@ use la_node::{Letter, Links};
 use la_object::{Query, Replicated, Shelf, ShelfError};
 use la_replica::Content;
 use la_set::{Counts, Delta, UpdateSet};
-use la_wire::{Call, LineError, LineFault, refuse, tell_fault};
+use la_wire::{Call, LineError, MAX_NAME, refuse, request_in, tell_fault};
 use std::alloc::Global;
 use std::io::Write;
+
+// A line that asks for something, by its number, and the name of that request.
+#[derive(Clone, Copy)]
+struct Asking<'a> {
+    number: u64,
+    line: &'a [u8],
+    name: &'a str,
+}
 
 // Whether a line is passed over: it is empty, or a note.
 fn is_note(line: &[u8]) -> bool
@@ -110,13 +119,14 @@ fn hear(links: &mut Links, machine: &NodeMachine, call: &Call)
 fn take<W: Write, D: Disk, B: Replicated>(
     alloc: Global,
     server: &mut Server<D, B>,
-    number: u64,
+    asking: Asking<'_>,
     input: &Input,
     output: &mut W,
 ) -> Result<(), NodeFault>
-    requires { TakesLines server.old }
-    ensures ok { OnOk result (TakesLine (OfCall input.now (λ _. IsKeptTurn) number) TellsNoLine (io_of (W.contents output.old) server.old) (io_of (W.contents output.new) server.new)) }
-    ensures err { IfErr result (Breaks (OfCall input.now (λ _. IsKeptTurn) number) TellsNoLine (io_of (W.contents output.old) server.old) (io_of (W.contents output.new) server.new)) }
+    requires takes { TakesLines server.old }
+    requires asked { IsAskingFor asking input.now }
+    ensures ok { OnOk result (TakesLine (OfCall asking.entry.line.now input.now (λ _. IsKeptTurn) asking.entry.number) TellsNoLine (io_of (W.contents output.old) server.old) (io_of (W.contents output.new) server.new)) }
+    ensures err { IfErr result (Breaks (OfCall asking.entry.line.now input.now (λ _. IsKeptTurn) asking.entry.number) TellsNoLine (io_of (W.contents output.old) server.old) (io_of (W.contents output.new) server.new)) }
     ensures stages { OnlyStages server.old server.new }
 {
     let Server { node, links, .. } = server;
@@ -129,6 +139,7 @@ fn take<W: Write, D: Disk, B: Replicated>(
             links,
             before,
             input.call(),
+            asking.name,
             &given,
         ) {
             Ok(text) => {
@@ -138,28 +149,35 @@ fn take<W: Write, D: Disk, B: Replicated>(
             Err(_) => Err(NodeFault::Memory),
         },
         Kept::Refused(refusal) => {
-            refuse(output, own, number, refusal_name(refusal))?;
+            refuse(
+                output,
+                own,
+                asking.number,
+                refusal_name(refusal),
+                asking.name,
+            )?;
             Ok(())
         }
     }
 }
 
-// What an object on a shelf answers by a node's view, which the shelf absorbs first.
+// What an object on a shelf answers by a node's view, which the shelf absorbs first, to a request of this name.
 fn said_by_view<B: Replicated>(
     alloc: Global,
     machine: &NodeMachine,
     shelf: &mut Shelf<B>,
-    object: u16,
-    query: &Query,
+    question: (u16, &Query),
+    name: &str,
 ) -> Said
     requires { IsSubset shelf.old.view machine.now.node.replica.view }
-    ensures said { IsSaidAnswer machine.now.node.replica.own object
-        (answer_by shelf.old.objects (kept_by machine.now) object query.now) result }
+    ensures said { IsSaidAnswer machine.now.node.replica.own question.entry.0 name.now
+        (answer_by shelf.old.objects (kept_by machine.now) question.entry.0 question.entry.1.now) result }
     ensures objects { shelf.new.objects ≡ shelf.old.objects }
     ensures within { IsSubset shelf.new.view machine.now.node.replica.view }
 {
+    let (object, query) = question;
     match shelf.ask_by(machine.node.view(), object, query) {
-        Ok(answer) => match answer_text(alloc, machine.node.own(), object, &answer) {
+        Ok(answer) => match answer_text(alloc, machine.node.own(), object, &answer, name) {
             Ok(text) => Said::Lines(text),
             Err(_) => Said::Memory,
         },
@@ -192,14 +210,20 @@ fn said_back(alloc: Global, machine: &NodeMachine, to: u8) -> Said
 }
 
 // Writes it.
-fn put<W: Write>(output: &mut W, own: u8, number: u64, said: &Said) -> Result<(), WriteFailed>
-    ensures ok { OnOk result (Writes W.contents output.old output.new (said_text own number said.now)) }
-    ensures err { OnErr result (WritesPrefix W.contents output.old output.new (said_text own number said.now)) }
+fn put<W: Write>(
+    output: &mut W,
+    own: u8,
+    asking: Asking<'_>,
+    said: &Said,
+) -> Result<(), WriteFailed>
+    requires { length asking.name.now ≤ MAX_NAME }
+    ensures ok { OnOk result (Writes W.contents output.old output.new (said_text own asking.entry.number asking.entry.name.now said.now)) }
+    ensures err { OnErr result (WritesPrefix W.contents output.old output.new (said_text own asking.entry.number asking.entry.name.now said.now)) }
 {
     match said {
         Said::Lines(text) => write_lines(output, text),
-        Said::NoSuchObject => refuse(output, own, number, "NoSuchObject"),
-        Said::Memory => refuse(output, own, number, "Memory"),
+        Said::NoSuchObject => refuse(output, own, asking.number, "NoSuchObject", asking.name),
+        Said::Memory => refuse(output, own, asking.number, "Memory", asking.name),
     }
 }
 
@@ -207,39 +231,40 @@ fn put<W: Write>(output: &mut W, own: u8, number: u64, said: &Said) -> Result<()
 fn call_here<W: Write, D: Disk, B: Replicated>(
     alloc: Global,
     server: &mut Server<D, B>,
-    number: u64,
+    asking: Asking<'_>,
     input: &Input,
     output: &mut W,
 ) -> Result<(), NodeFault>
-    requires { TakesLines server.old }
-    ensures ok { OnOk result (TakesLine (OfCall input.now IsTurnHere number) TellsNoLine (io_of (W.contents output.old) server.old) (io_of (W.contents output.new) server.new)) }
-    ensures err { IfErr result (Breaks (OfCall input.now IsTurnHere number) TellsNoLine (io_of (W.contents output.old) server.old) (io_of (W.contents output.new) server.new)) }
+    requires takes { TakesLines server.old }
+    requires asked { IsAskingFor asking input.now }
+    ensures ok { OnOk result (TakesLine (OfCall asking.entry.line.now input.now IsTurnHere asking.entry.number) TellsNoLine (io_of (W.contents output.old) server.old) (io_of (W.contents output.new) server.new)) }
+    ensures err { IfErr result (Breaks (OfCall asking.entry.line.now input.now IsTurnHere asking.entry.number) TellsNoLine (io_of (W.contents output.old) server.old) (io_of (W.contents output.new) server.new)) }
     ensures stages { OnlyStages server.old server.new }
 {
     match input.call() {
         Call::Ask { object, query, .. } => {
             let Server { node, shelf, .. } = server;
             let machine = &node.durable.machine;
-            let said = said_by_view(alloc, machine, shelf, *object, query);
-            put(output, machine.node.own(), number, &said)?;
+            let said = said_by_view(alloc, machine, shelf, (*object, query), asking.name);
+            put(output, machine.node.own(), asking, &said)?;
             Ok(())
         }
         Call::Tick => {
             let Server { node, links, .. } = server;
             let machine = &node.durable.machine;
             let said = said_again(alloc, machine, links);
-            put(output, machine.node.own(), number, &said)?;
+            put(output, machine.node.own(), asking, &said)?;
             Ok(())
         }
         Call::Receive(letter) if is_stale(&server.node.durable.machine, letter) => {
             let machine = &server.node.durable.machine;
             let said = said_back(alloc, machine, letter.parcel.from);
-            put(output, machine.node.own(), number, &said)?;
+            put(output, machine.node.own(), asking, &said)?;
             Ok(())
         }
         Call::Known(_) => Ok(()),
         Call::Submit { .. } | Call::Decide { .. } | Call::Receive(_) => {
-            take(alloc, server, number, input, output)
+            take(alloc, server, asking, input, output)
         }
     }
 }
@@ -248,41 +273,43 @@ fn call_here<W: Write, D: Disk, B: Replicated>(
 fn call_heard<W: Write, D: Disk, B: Replicated>(
     alloc: Global,
     server: &mut Server<D, B>,
-    number: u64,
+    asking: Asking<'_>,
     input: &Input,
     output: &mut W,
 ) -> Result<(), NodeFault>
-    requires { TakesLines server.old }
-    ensures ok { OnOk result (TakesLine (OfCall input.now IsTurnOf number) TellsNoLine (io_of (W.contents output.old) server.old) (io_of (W.contents output.new) server.new)) }
-    ensures err { IfErr result (Breaks (OfCall input.now IsTurnOf number) TellsNoLine (io_of (W.contents output.old) server.old) (io_of (W.contents output.new) server.new)) }
+    requires takes { TakesLines server.old }
+    requires asked { IsAskingFor asking input.now }
+    ensures ok { OnOk result (TakesLine (OfCall asking.entry.line.now input.now IsTurnOf asking.entry.number) TellsNoLine (io_of (W.contents output.old) server.old) (io_of (W.contents output.new) server.new)) }
+    ensures err { IfErr result (Breaks (OfCall asking.entry.line.now input.now IsTurnOf asking.entry.number) TellsNoLine (io_of (W.contents output.old) server.old) (io_of (W.contents output.new) server.new)) }
     ensures stages { OnlyStages server.old server.new }
 {
     if is_elsewhere(&server.node.durable.machine, input.call()) {
         return Ok(());
     }
-    call_here(alloc, server, number, input, output)
+    call_here(alloc, server, asking, input, output)
 }
 
 // A line that says a call.
 fn call<W: Write, D: Disk, B: Replicated>(
     alloc: Global,
     server: &mut Server<D, B>,
-    number: u64,
+    asking: Asking<'_>,
     input: &Input,
     output: &mut W,
 ) -> Result<(), NodeFault>
-    requires { TakesLines server.old }
-    ensures ok { OnOk result (TakesLine (OfCall input.now IsCallTurn number) TellsNoLine (io_of (W.contents output.old) server.old) (io_of (W.contents output.new) server.new)) }
-    ensures err { IfErr result (Breaks (OfCall input.now IsCallTurn number) TellsNoLine (io_of (W.contents output.old) server.old) (io_of (W.contents output.new) server.new)) }
+    requires takes { TakesLines server.old }
+    requires asked { IsAskingFor asking input.now }
+    ensures ok { OnOk result (TakesLine (OfCall asking.entry.line.now input.now IsCallTurn asking.entry.number) TellsNoLine (io_of (W.contents output.old) server.old) (io_of (W.contents output.new) server.new)) }
+    ensures err { IfErr result (Breaks (OfCall asking.entry.line.now input.now IsCallTurn asking.entry.number) TellsNoLine (io_of (W.contents output.old) server.old) (io_of (W.contents output.new) server.new)) }
     ensures stages { OnlyStages server.old server.new }
 {
     let Server { node, links, .. } = &mut *server;
     hear(links, &node.durable.machine, input.call());
-    call_heard(alloc, server, number, input, output)
+    call_heard(alloc, server, asking, input, output)
 }
 
 /// Takes line `number` of an input, which has no more bytes than [`la_io::limit_of`] says, without its end. Where it is
-/// kept it is staged: what is written of it may go out only once that is committed.
+/// kept it is staged, without the name of its request: what is written of it may go out only once that is committed.
 ///
 /// `WriteFault` comes where a write fails, and `Memory` where the lines find no room: then a front of
 /// them is written, and the call is staged.
@@ -303,23 +330,22 @@ pub fn answer<W: Write, E: Listener, D: Disk, B: Replicated>(
     if is_note(line) {
         return Ok(());
     }
-    match Input::read(alloc, line) {
+    let request = request_in(line);
+    let name = request.name;
+    match Input::read(alloc, request.call) {
         Ok(input) => {
             // a hint to the prover: what the input says
             let _call = input.call();
-            call(alloc, server, number, &input, output)
+            let asking = Asking { number, line, name };
+            call(alloc, server, asking, &input, output)
         }
         Err(LineError::Fault(fault)) => {
-            tell_fault(errors, number, fault);
+            tell_fault(errors, number, fault, name);
             Ok(())
         }
         Err(LineError::Memory) => {
-            refuse(
-                output,
-                server.node.durable.machine.node.own(),
-                number,
-                "Memory",
-            )?;
+            let own = server.node.durable.machine.node.own();
+            refuse(output, own, number, "Memory", name)?;
             Ok(())
         }
     }

@@ -22,17 +22,17 @@ pub fn node_lives_are_one_run<D: Disk>()
     la_journal::laws::lives_are_one_run::<NodeMachine>();
 }
 
-/// Nodes of a group, each a process of its own, are together: whatever lines they take that say what letters of theirs
-/// say, be they late, again, in any order or never, whatever calls clients hand them, and whoever is killed at any
-/// moment and started again. So what they keep, the letters that they write and the sets that they note as learnt are
+/// Nodes of a group, each a process of its own, are together: whatever lines of theirs they take, be they late, again, in
+/// any order or never, whatever calls clients hand them, and whoever is killed at any moment and started again. So what they keep, the letters that they write and the sets that they note as learnt are
 /// those of one group, of which [`la_world::live::replicas_together_keep_promises`] says what holds.
 pub fn processes_stay_together()
     ensures new { NewProcessesAreTogether }
     ensures turns { TurnsKeepTogether }
     ensures restarts { RestartsKeepTogether }
 {
-    // hints to the prover: of replicas
+    // hints to the prover: of replicas, and of lines
     la_world::live::new_replicas_are_together();
     la_world::live::replicas_stay_together();
+    la_wire::laws::letters_are_read_back_or_not();
     la_durable::laws::restarts_take_calls();
 }

@@ -9,6 +9,7 @@ mod answering;
 mod ended;
 mod error;
 mod keeping;
+mod label;
 pub mod laws;
 mod names;
 mod options;
@@ -22,6 +23,7 @@ mod texts;
 
 pub use ended::Ended;
 pub use error::{NodeFault, NodeOption};
+pub use label::Labelled;
 pub use options::{Options, command};
 pub use output::Output;
 pub use server::Server;

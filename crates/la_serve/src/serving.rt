@@ -47,11 +47,11 @@ fn step<R: Read, E: Listener, D: Disk, B: Replicated>(
             Ok(true)
         }
         Next::Long => {
-            tell_fault(errors, number, LineFault::TooLong);
+            tell_fault(errors, number, LineFault::TooLong, "");
             Ok(true)
         }
         Next::Cut => {
-            tell_fault(errors, number, LineFault::BadLine);
+            tell_fault(errors, number, LineFault::BadLine, "");
             Ok(false)
         }
         Next::End => Ok(false),

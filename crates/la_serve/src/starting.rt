@@ -1,4 +1,4 @@
-ghost use Rattle.std.specs.Prelude.{◌≡◌, ◌≤◌, take, IfOk};
+ghost use Rattle.std.specs.Prelude.{◌≡◌, ◌⊎◌, ◌≤◌, take, IfOk};
 ghost use Rattle.la_set.specs.Histories.{empty};
 ghost use Rattle.la_object.specs.declared.kind.Kind.TheVariants.{Counter as CounterKind};
 ghost use Rattle.la_object.specs.declared.kind.Kind.TheVariants.{MaxRegister as RegisterKind};
@@ -6,7 +6,7 @@ ghost use Rattle.la_object.specs.declared.kind.Kind.TheVariants.{OrSet as SetKin
 ghost use Rattle.la_object.specs.Objects.{start};
 ghost use Rattle.la_io.specs.Streams.{TellsLine, TellsAll};
 ghost use Rattle.la_serve.specs.Faults.{of_journal, start_fault, space_count, option_at};
-ghost use Rattle.la_serve.specs.Ending.{node_status, end_line, end_detail, no_journal_line, AreAtStart, ServerEnds};
+ghost use Rattle.la_serve.specs.Ending.{node_status, end_line, end_detail, no_journal_line, no_journal_short, AreAtStart, ServerEnds};
 ghost use Rattle.la_serve.specs.Io.{io};
 ghost use Rattle.la_serve.specs.Starting.{Starts, torn_told};
 
@@ -101,17 +101,44 @@ fn tell_cut<E: Listener>(cut: usize, errors: &mut E)
     }
 }
 
-/// The exit status where a node's folder can't be opened, for an error of this kind, which is told behind
-/// `NoJournal`. Of a folder that another process has, [`end_with`] tells.
-pub fn end_without_journal<E: Listener>(kind: ErrorKind, errors: &mut E) -> u8
-    ensures status { result ≡ 5 }
-    ensures told { TellsLine E.contents E.refuses errors.old errors.new (no_journal_line kind) }
+// The line that tells why a folder can't be opened.
+fn no_journal_line(alloc: Global, folder: &str, kind: ErrorKind) -> Result<Vec<u8>, AllocError>
+    ensures { IfOk result (λ line. line.items ≡ no_journal_line folder.now kind) }
 {
-    let mut line = Line::new();
-    line.push_str("NoJournal: ");
-    line.push_str(cause_name(kind));
-    line.push_str("\n");
-    let _ = tell_all(errors, line.as_str().as_bytes());
+    let mut line = Vec::new(alloc);
+    line.extend_from_slice(b"NoJournal: ")?;
+    line.extend_from_slice(folder.as_bytes())?;
+    line.extend_from_slice(b": ")?;
+    line.extend_from_slice(cause_name(kind).as_bytes())?;
+    line.push(b'\n')?;
+    Ok(line)
+}
+
+/// The exit status where a node's folder can't be opened, for an error of this kind, which is told behind `NoJournal` and
+/// the folder; without the folder, where there is no memory for the line. Of a folder that another process has,
+/// [`end_with`] tells.
+pub fn end_without_journal<E: Listener>(
+    alloc: Global,
+    folder: &str,
+    kind: ErrorKind,
+    errors: &mut E,
+) -> u8
+    ensures status { result ≡ 5 }
+    ensures told { TellsLine E.contents E.refuses errors.old errors.new (no_journal_line folder.now kind)
+        ⊎ TellsLine E.contents E.refuses errors.old errors.new (no_journal_short kind) }
+{
+    match no_journal_line(alloc, folder, kind) {
+        Ok(line) => {
+            let _ = tell_all(errors, &line);
+        }
+        Err(_) => {
+            let mut line = Line::new();
+            line.push_str("NoJournal: ");
+            line.push_str(cause_name(kind));
+            line.push_str("\n");
+            let _ = tell_all(errors, line.as_str().as_bytes());
+        }
+    }
     5
 }
 

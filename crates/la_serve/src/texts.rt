@@ -23,16 +23,21 @@ use std::alloc::{AllocError, Global};
 // The room that most notes need, in bytes.
 const LINE: usize = 64;
 
-// Answers a submission or a proposal.
-fn put_taken(out: &mut Vec<u8>, call: &Call, node: &Node<Counter>) -> Result<(), AllocError>
-    ensures { OnOk result (out.new.items ≡ out.old.items ++ taken_text node.now.replica (called call.now)) }
+// Answers a submission or a proposal, by the name of its request.
+fn put_taken(
+    out: &mut Vec<u8>,
+    call: &Call,
+    name: &str,
+    node: &Node<Counter>,
+) -> Result<(), AllocError>
+    ensures { OnOk result (out.new.items ≡ out.old.items ++ taken_text node.now.replica (called call.now) name.now) }
 {
     match call {
         Call::Submit { .. } => match node.submitted(0) {
-            Some(number) => put_submitted(out, node.own(), number),
+            Some(number) => put_submitted(out, node.own(), number, name),
             None => Ok(()),
         },
-        Call::Decide { commit, .. } => put_proposed(out, node.own(), *commit),
+        Call::Decide { commit, .. } => put_proposed(out, node.own(), *commit, name),
         Call::Ask { .. } | Call::Tick | Call::Receive(_) | Call::Known(_) => Ok(()),
     }
 }
@@ -154,35 +159,37 @@ fn put_owed(
     Ok(())
 }
 
-/// What is written for a call that was accepted, once its view had so many updates.
+/// What is written for a call that was accepted, of a request of this name, once the view had so many updates.
 pub fn text_of(
     alloc: Global,
     machine: &NodeMachine,
     links: &Links,
     before: usize,
     call: &Call,
+    name: &str,
     given: &Received,
 ) -> Result<Vec<u8>, AllocError>
-    ensures { IfOk result (λ text. text.items ≡ call_text before links.now (kept_by machine.now) (called call.now) (given_of given.now)) }
+    ensures { IfOk result (λ text. text.items ≡ call_text before links.now (kept_by machine.now) (called call.now) name.now (given_of given.now)) }
 {
     let mut out = Vec::with_capacity(alloc, LINE)?;
-    put_taken(&mut out, call, &machine.node)?;
+    put_taken(&mut out, call, name, &machine.node)?;
     put_receipt(&mut out, &machine.node, before, call, given)?;
     put_mail(&mut out, links, &machine.node, &given.done.mail)?;
     Ok(out)
 }
 
-/// What is written for a question.
+/// What is written for a question, a request of this name.
 pub fn answer_text(
     alloc: Global,
     own: u8,
     object: u16,
     answer: &Answer,
+    name: &str,
 ) -> Result<Vec<u8>, AllocError>
-    ensures { IfOk result (λ text. text.items ≡ answered_note own object answer.now) }
+    ensures { IfOk result (λ text. text.items ≡ answered_note own object answer.now name.now) }
 {
     let mut out = Vec::new(alloc);
-    put_answered(alloc, &mut out, own, object, answer)?;
+    put_answered(alloc, &mut out, own, object, answer, name)?;
     Ok(out)
 }
 

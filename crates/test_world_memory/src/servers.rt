@@ -14,7 +14,7 @@ use la_node::{Config, Links};
 use la_object::Shelf;
 use la_orset::OrSet;
 use la_proposer::Votes;
-use la_serve::{NodeFault, Options, Output, Server, command, run, serve};
+use la_serve::{NodeFault, Options, Output, Server, command, end_without_journal, run, serve};
 use la_set::UpdateSet;
 use std::alloc::Global;
 use std::io;
@@ -23,13 +23,13 @@ use test_memory::{Came, again, refused, second};
 
 // ## Lines that are served
 
-// What a journal has, a line, whether that is kept, and what is written of it: also where the journal has gained
-// it once already, and nothing was written; where then nothing is written, it is not kept again. An empty file is a
-// new journal.
+// What a journal has, a line, what is kept of that, and what is written of it: also where the journal has gained it
+// once already, and nothing was written; where then nothing is written, it is not kept again. An empty file is a new
+// journal.
 struct Row {
     journal: &'static str,
     line: &'static str,
-    is_kept: bool,
+    kept: &'static str,
     text: &'static str,
     later: &'static str,
 }
@@ -37,16 +37,16 @@ struct Row {
 const ROWS: [Row; 8] = [
     Row {
         journal: "",
-        line: "submit 0 3 put 7\n",
-        is_kept: true,
-        text: "# r0 submitted 0.1\noffer 1 0 0 0 1 has 0 view 0 base 0;0.1 3 put 7\n",
-        later: "# r0 submitted 0.2\n",
+        line: "submit 0 3 put 7 @a.1\n",
+        kept: "submit 0 3 put 7\n",
+        text: "# r0 submitted 0.1 @a.1\noffer 1 0 0 0 1 has 0 view 0 base 0;0.1 3 put 7\n",
+        later: "# r0 submitted 0.2 @a.1\n",
     },
     Row {
         journal: "lattice 2 replica 0 of 1 votes 1 commits 0 cap 10 362792422aa91c16\nsubmit 0 3 put 7\n\
             ~ 1 362792422aa91c16 d153d31f9cebc397\n",
         line: "tick\n",
-        is_kept: false,
+        kept: "",
         text: "offer 1 0 0 0 1 has 0 view 0 base 0;0.1 3 put 7\n",
         later: "",
     },
@@ -56,14 +56,14 @@ const ROWS: [Row; 8] = [
             offer 1 0 0 0 1 has 0 view 0 base 0;0.1 3 put 7\n\
             ~ 1 d153d31f9cebc397 9038bb4cf0fd4f18\n",
         line: "yes 1 0 0 0 1 has 1 view 0\n",
-        is_kept: true,
+        kept: "yes 1 0 0 0 1 has 1 view 0\n",
         text: "# r0 learnt 0 1 1 0 0 0 0 0 0 0\n# r0 view 1 0 0 0 0 0 0 0\n",
         later: "",
     },
     Row {
         journal: ROUND,
         line: "ask 0 3 items\n",
-        is_kept: false,
+        kept: "",
         text: ANSWER,
         later: "",
     },
@@ -71,28 +71,28 @@ const ROWS: [Row; 8] = [
     Row {
         journal: ROUND,
         line: "tell 1 0 0 0 1 has 1 view 1 base 0;0.1 3 put 7\n",
-        is_kept: false,
+        kept: "",
         text: "known 1 0 0 has 1 view 1\n",
         later: "",
     },
     Row {
         journal: ROUND,
         line: "tell 1 0 0 0 2 has 3 view 3 base 0;0.1 3 put 7;0.3 3 put 8\n",
-        is_kept: false,
+        kept: "",
         text: "# r0 refused 1 Gap\n",
         later: "",
     },
     Row {
         journal: ROUND,
         line: "tell 1 0 0 0 2 has 3 view 3 base 2;0.3 3 put 8\n",
-        is_kept: false,
+        kept: "",
         text: "# r0 refused 1 NoBase\n",
         later: "",
     },
     Row {
         journal: ROUND,
         line: "known 1 0 0 has 1 view 1\n",
-        is_kept: false,
+        kept: "",
         text: "",
         later: "",
     },
@@ -109,7 +109,10 @@ const ROUND: &str =
 
 const ANSWER: &str = "# r0 answered 3 items [7]\n";
 
+// A note that there was no memory, and what it ends in: the name of the request, if it has one.
 const REFUSED: &str = "# r0 refused 1 Memory\n";
+
+const REFUSED_BY_NAME: &str = "# r0 refused 1 Memory @a.1\n";
 
 fn alone() -> Config {
     Config {
@@ -204,7 +207,9 @@ fn serve_line<D: Disk>(
     let written = output.writer.as_slice();
     match served {
         Ok(()) if written == text.as_bytes() => Served::Well,
-        Ok(()) if written == REFUSED.as_bytes() => Served::Noted,
+        Ok(()) if written == REFUSED.as_bytes() || written == REFUSED_BY_NAME.as_bytes() => {
+            Served::Noted
+        }
         Err(NodeFault::Memory | NodeFault::DiskFault) if text.as_bytes().starts_with(written) => {
             Served::Stopped
         }
@@ -232,12 +237,12 @@ fn begun(journal: &'static str) -> &'static [u8] {
     journal.as_bytes()
 }
 
-// Where nothing was written the journal has gained a line that is kept or not.
-fn came_of(line: &str, is_kept: bool, served: Served, before: &[u8], after: &[u8]) -> Came {
-    let has_line = is_kept && has_gained(after, before, line);
+// Where nothing was written the journal has gained the line that is kept, if one is, or not.
+fn came_of(kept: &str, served: Served, before: &[u8], after: &[u8]) -> Came {
+    let has_line = !kept.is_empty() && has_gained(after, before, kept);
     let is_same = after == before;
     match served {
-        Served::Well => Some(if is_kept { has_line } else { is_same }),
+        Served::Well => Some(if kept.is_empty() { is_same } else { has_line }),
         Served::Noted => refused(is_same),
         Served::Stopped => refused(is_same || has_line),
         Served::Wrong => Some(false),
@@ -248,23 +253,21 @@ fn came_of(line: &str, is_kept: bool, served: Served, before: &[u8], after: &[u8
 fn serves_again(alloc: Global, row: &Row, journal: &[u8]) -> Came {
     let is_first = journal == begun(row.journal);
     let text = if is_first { row.text } else { row.later };
+    let kept = if is_first || !row.later.is_empty() {
+        row.kept
+    } else {
+        ""
+    };
     let mut server = start(alloc, journal)?;
     let served = serve_line(alloc, &mut server, row.line, text);
-    let is_kept = row.is_kept && !text.is_empty();
-    came_of(
-        row.line,
-        is_kept,
-        served,
-        journal,
-        server.node.durable.disk.bytes(),
-    )
+    came_of(kept, served, journal, server.node.durable.disk.bytes())
 }
 
 fn serves(alloc: Global, row: &Row) -> Came {
     let mut server = start(alloc, row.journal.as_bytes())?;
     let served = serve_line(alloc, &mut server, row.line, row.text);
     let left = server.node.durable.disk.bytes();
-    match came_of(row.line, row.is_kept, served, begun(row.journal), left) {
+    match came_of(row.kept, served, begun(row.journal), left) {
         Some(well) => Some(well),
         None => second(alloc, serves_again(alloc, row, left)),
     }
@@ -459,6 +462,19 @@ fn ends_for_memory(alloc: Global, error: &Error) -> Came {
     refused(status == 3 && is_memory(&output, &told.bytes))
 }
 
+// A folder that is not there: it is told by name where there is memory for that.
+fn unopened(alloc: Global) -> Came {
+    let mut told = Told {
+        bytes: room(alloc)?,
+    };
+    let status = end_without_journal(alloc, "/none", io::ErrorKind::NotFound, &mut told);
+    match (status, told.bytes.as_slice()) {
+        (5, b"NoJournal: /none: not found\n") => Some(true),
+        (5, b"NoJournal: not found\n") => refused(true),
+        _ => Some(false),
+    }
+}
+
 fn calls(alloc: Global) -> Came {
     let words = words_of(alloc, &WORDS)?;
     let help = words_of(alloc, &HELP)?;
@@ -467,7 +483,8 @@ fn calls(alloc: Global) -> Came {
         again!(alloc, commands(alloc, &words))?
             && again!(alloc, helps(alloc, &help))?
             && again!(alloc, mistakes(alloc, &mistake))?
-            && again!(alloc, runs(alloc))?,
+            && again!(alloc, runs(alloc))?
+            && again!(alloc, unopened(alloc))?,
     )
 }
 

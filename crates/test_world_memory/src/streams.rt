@@ -110,13 +110,13 @@ fn put(out: &[u8], came: Result<(), AllocError>, text: &str) -> Came {
 
 fn puts_submitted(alloc: Global) -> Came {
     let mut out = b"=".to_vec(alloc).ok()?;
-    let came = put_submitted(&mut out, 7, 1_000_000);
-    put(&out, came, "# r7 submitted 7.1000000\n")
+    let came = put_submitted(&mut out, 7, 1_000_000, "a-7");
+    put(&out, came, "# r7 submitted 7.1000000 @a-7\n")
 }
 
 fn puts_proposed(alloc: Global) -> Came {
     let mut out = b"=".to_vec(alloc).ok()?;
-    let came = put_proposed(&mut out, 0, 15);
+    let came = put_proposed(&mut out, 0, 15, "");
     put(&out, came, "# r0 proposed 15\n")
 }
 
@@ -148,8 +148,8 @@ fn puts_outcome(alloc: Global, outcome: Outcome, text: &str) -> Came {
 
 fn puts_answered(alloc: Global) -> Came {
     let mut out = b"=".to_vec(alloc).ok()?;
-    let came = put_answered(alloc, &mut out, 0, 1, &Answer::Total(-40));
-    put(&out, came, "# r0 answered 1 total -40\n")
+    let came = put_answered(alloc, &mut out, 0, 1, &Answer::Total(-40), "A.b:c_9");
+    put(&out, came, "# r0 answered 1 total -40 @A.b:c_9\n")
 }
 
 // A letter with a delta.

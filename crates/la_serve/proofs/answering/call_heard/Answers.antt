@@ -8,5 +8,5 @@ use Rattle.la_serve.proofs.answering.call_heard.Goals as goal
 pub returns-then-is_elsewhere-clause-ok : goal.returns-then-is_elsewhere-clause-ok
 returns-then-is_elsewhere-clause-ok g c =
     let n = kept_by c.args.server.now.node.durable.machine in
-    call_passed c.args.input.now c.args.number _
+    call_passed c.args.asking.line.now c.args.input.now c.args.asking.number _
     (ap (is_elsewhere n) (ap called (sym c.call.ensures.is)) ∙ sym c.is_elsewhere.ensures ∙ c.if-is_elsewhere.true)

@@ -10,7 +10,8 @@ use Rattle.la_serve.proofs.answering.call_here.Goals as goal
 
 pub returns-in_ok-put-in-Ask-clause-ok : goal.returns-in_ok-put-in-Ask-clause-ok
 returns-in_ok-put-in-Ask-clause-ok g c =
-    ask_taken Appends c.args.number c.args.input.now _ _ c.said_by_view-said.result refl refl _ c.own.ensures
+    ask_taken Appends c.args.asking.number c.args.asking.line.now c.args.input.now _ _ c.said_by_view-said.result refl
+    refl _ c.own.ensures _ c.requires.asked.name
     c.in_ok-put-in-Ask.ensures.ok _ _ _ (ap called (sym c.call.ensures.is ∙ c.in-Ask.is))
     c.said_by_view-said.ensures.said
 
@@ -18,13 +19,15 @@ pub returns-in_err-put-in-Ask-clause-err : goal.returns-in_err-put-in-Ask-clause
 returns-in_err-put-in-Ask-clause-err g c =
     let f : IfErr c.from_residual.result (λ e. e ≡ WriteFault) = search rules in
     if_err_cut _ _ _ _ c.from_residual.result f
-    (ask_taken AppendsPrefix c.args.number c.args.input.now _ _ c.said_by_view-said.result refl refl _ c.own.ensures
+    (ask_taken AppendsPrefix c.args.asking.number c.args.asking.line.now c.args.input.now _ _
+    c.said_by_view-said.result refl refl _ c.own.ensures _ c.requires.asked.name
     c.in_err-put-in-Ask.ensures.err _ _ _ (ap called (sym c.call.ensures.is ∙ c.in-Ask.is))
     c.said_by_view-said.ensures.said)
 
 pub returns-in_ok-put-in-Tick-clause-ok : goal.returns-in_ok-put-in-Tick-clause-ok
 returns-in_ok-put-in-Tick-clause-ok g c =
-    tick_taken Appends c.args.number c.args.input.now _ _ refl refl _ c.own-in-Tick.ensures
+    tick_taken Appends c.args.asking.number c.args.asking.line.now c.args.input.now _ _ refl refl _
+    c.own-in-Tick.ensures _ c.requires.asked.name
     (ap called (sym c.call.ensures.is ∙ c.in-Tick.is)) c.said_again-said.result c.in_ok-put-in-Tick.ensures.ok
     c.said_again-said.ensures
 
@@ -32,13 +35,15 @@ pub returns-in_err-put-in-Tick-clause-err : goal.returns-in_err-put-in-Tick-clau
 returns-in_err-put-in-Tick-clause-err g c =
     let f : IfErr c.from_residual-in_err-put-in-Tick.result (λ e. e ≡ WriteFault) = search rules in
     if_err_cut _ _ _ _ c.from_residual-in_err-put-in-Tick.result f
-    (tick_taken AppendsPrefix c.args.number c.args.input.now _ _ refl refl _ c.own-in-Tick.ensures
+    (tick_taken AppendsPrefix c.args.asking.number c.args.asking.line.now c.args.input.now _ _ refl refl _
+    c.own-in-Tick.ensures _ c.requires.asked.name
     (ap called (sym c.call.ensures.is ∙ c.in-Tick.is)) c.said_again-said.result c.in_err-put-in-Tick.ensures.err
     c.said_again-said.ensures)
 
 pub returns-in_ok-put-in-Receive-clause-ok : goal.returns-in_ok-put-in-Receive-clause-ok
 returns-in_ok-put-in-Receive-clause-ok g c =
-    back_taken Appends c.args.number c.args.input.now _ _ c.said_back-said.result refl refl _ c.own-in-Receive.ensures
+    back_taken Appends c.args.asking.number c.args.asking.line.now c.args.input.now _ _ c.said_back-said.result refl
+    refl _ c.own-in-Receive.ensures _ c.requires.asked.name
     c.in_ok-put-in-Receive.ensures.ok (letter_message c.in-Receive.letter)
     (ap called (sym c.call.ensures.is ∙ c.in-Receive.is)) (sym c.is_stale.ensures ∙ c.if-is_stale.true)
     c.said_back-said.ensures
@@ -47,12 +52,13 @@ pub returns-in_err-put-in-Receive-clause-err : goal.returns-in_err-put-in-Receiv
 returns-in_err-put-in-Receive-clause-err g c =
     let f : IfErr c.from_residual-in_err-put-in-Receive.result (λ e. e ≡ WriteFault) = search rules in
     if_err_cut _ _ _ _ c.from_residual-in_err-put-in-Receive.result f
-    (back_taken AppendsPrefix c.args.number c.args.input.now _ _ c.said_back-said.result refl refl _
-    c.own-in-Receive.ensures c.in_err-put-in-Receive.ensures.err (letter_message c.in-Receive.letter)
+    (back_taken AppendsPrefix c.args.asking.number c.args.asking.line.now c.args.input.now _ _
+    c.said_back-said.result refl refl _ c.own-in-Receive.ensures _ c.requires.asked.name
+    c.in_err-put-in-Receive.ensures.err (letter_message c.in-Receive.letter)
     (ap called (sym c.call.ensures.is ∙ c.in-Receive.is)) (sym c.is_stale.ensures ∙ c.if-is_stale.true)
     c.said_back-said.ensures)
 
 pub returns-in-Known-clause-ok : goal.returns-in-Known-clause-ok
 returns-in-Known-clause-ok g c =
-    known_taken c.args.input.now c.args.number _ c.in-Known.field-0
+    known_taken c.args.asking.line.now c.args.input.now c.args.asking.number _ c.in-Known.field-0
     (ap called (sym c.call.ensures.is ∙ c.in-Known.is))

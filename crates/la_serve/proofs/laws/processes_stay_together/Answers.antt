@@ -5,7 +5,10 @@ pub returns-clause-new : goal.returns-clause-new
 returns-clause-new c = new_ones c.new_replicas_are_together.ensures
 
 pub returns-clause-turns : goal.returns-clause-turns
-returns-clause-turns c = turns c.replicas_stay_together.ensures.calls c.replicas_stay_together.ensures.again
+returns-clause-turns c =
+    turns c.replicas_stay_together.ensures.calls c.replicas_stay_together.ensures.again
+    c.letters_are_read_back_or_not.ensures
 
 pub returns-clause-restarts : goal.returns-clause-restarts
-returns-clause-restarts c = restarts c.replicas_stay_together.ensures.lost c.restarts_take_calls.ensures
+returns-clause-restarts c =
+    restarts c.replicas_stay_together.ensures.lost c.letters_are_read_back_or_not.ensures c.restarts_take_calls.ensures

@@ -1,0 +1,80 @@
+// Who speaks, before each line that is told.
+ghost use Rattle.std.specs.Prelude.{◌≡◌, ◌≤◌, ◌++◌, length, OnOk};
+ghost use Rattle.la_io.specs.Streams.{Writes};
+ghost use Rattle.la_serve.specs.Labels.{label_of};
+
+use arrayvec::{ArrayString, ArrayVec};
+use itoa::Buffer;
+use la_io::{Listener, WriteFailed, tell_all};
+use std::io;
+use std::io::Write;
+
+/// A listener to which each line is told behind who tells it, as `lattice node: r0: `: so of many nodes in one log it is
+/// known which speaks. A line of at most 96 bytes, and no node tells a longer one, is one write with its label. It takes
+/// no memory.
+#[derive(Drop)]
+pub struct Labelled<E: Listener + Drop> {
+    label: ArrayString<24>,
+    listener: E,
+}
+
+impl<E: Listener + Drop> Labelled<E> {
+    /// The listener with the label of this replica, or of the program alone where it is not known.
+    pub fn new(own: Option<u8>, listener: E) -> Labelled<E>
+        ensures label { result.label.bytes ≡ label_of own }
+        ensures listener { result.listener ≡ listener }
+    {
+        let mut label = ArrayString::new();
+        label.push_str("lattice node: ");
+        if let Some(own) = own {
+            label.push_str("r");
+            label.push_str(Buffer::new().format(own));
+            label.push_str(": ");
+        }
+        Labelled { label, listener }
+    }
+
+    /// Tells one line, its end with it.
+    pub fn tell(&mut self, line: &[u8]) -> Result<(), WriteFailed>
+        ensures one { length line.now ≤ 96 → OnOk result (Writes E.contents self.old.listener self.new.listener
+            (self.old.label.bytes ++ line.now)) }
+        ensures label { self.new.label ≡ self.old.label }
+    {
+        let mut whole: ArrayVec<u8, 120> = ArrayVec::new();
+        let label = self.label.as_str().as_bytes();
+        let fits = whole.try_extend_from_slice(label).is_ok()
+            && whole.try_extend_from_slice(line).is_ok();
+        if fits {
+            return tell_all(&mut self.listener, whole.as_slice());
+        }
+        tell_all(&mut self.listener, label)?;
+        tell_all(&mut self.listener, line)
+    }
+}
+
+/// Of what it was told nothing is stated here, as of the real standard error: it may always refuse.
+impl<E: Listener + Drop> Write for Labelled<E> {
+    fn write(&mut self, buf: &[u8]) -> io::Result<usize> {
+        self.listener.write(buf)
+    }
+
+    fn flush(&mut self) -> io::Result<()> {
+        self.listener.flush()
+    }
+}
+
+impl<E: Listener + Drop> Listener for Labelled<E> {
+    ghost refuses = { λ old bytes new. Unit {0} };
+
+    fn hear(&mut self, bytes: &[u8]) -> Result<usize, WriteFailed> {
+        if bytes.is_empty() {
+            return Err(WriteFailed);
+        }
+        self.tell(bytes)?;
+        Ok(bytes.len())
+    }
+
+    fn settle(&mut self) -> Result<(), WriteFailed> {
+        self.listener.settle()
+    }
+}
