@@ -22,8 +22,8 @@ class Node:
     def __init__(self, program: Path, folder: Path, count: int, own: int) -> None:
         self.folder = folder / f"journal{own}"
         self.folder.mkdir()
-        words = [program, "node", "--replicas", str(count), "--own", str(own), "--journal", self.folder]
-        self.process = subprocess.Popen(words, stdin=subprocess.PIPE, stdout=subprocess.PIPE)
+        self.words = [program, "node", "--replicas", str(count), "--own", str(own), "--journal", self.folder]
+        self.process = subprocess.Popen(self.words, stdin=subprocess.PIPE, stdout=subprocess.PIPE)
         self.input, self.output = self.process.stdin.fileno(), self.process.stdout.fileno()
         for pipe in (self.input, self.output):
             os.set_blocking(pipe, False)
@@ -32,6 +32,16 @@ class Node:
     def journal(self) -> int:
         """The bytes in its folder."""
         return sum(file.stat().st_size for file in self.folder.iterdir())
+
+    def start(self) -> tuple[float, float]:
+        """The seconds and the mebibytes of a start on its journal, over an input that is at its end."""
+        began = time.perf_counter()
+        process = subprocess.Popen(self.words, stdin=subprocess.DEVNULL)
+        _, status, usage = os.wait4(process.pid, 0)
+        process.returncode = os.waitstatus_to_exitcode(status)
+        if process.returncode:
+            sys.exit("a node does not start")
+        return time.perf_counter() - began, usage.ru_maxrss / 1024
 
     def write(self) -> None:
         """Writes as much as the pipe takes."""
