@@ -1,5 +1,5 @@
 // Who speaks, before each line that is told.
-ghost use Rattle.std.specs.Prelude.{◌≡◌, ◌≤◌, ◌++◌, length, OnOk};
+ghost use Rattle.std.specs.Prelude.{◌≡◌, ◌++◌, OnOk};
 ghost use Rattle.la_io.specs.Streams.{Writes};
 ghost use Rattle.la_serve.specs.Labels.{label_of};
 
@@ -10,8 +10,8 @@ use std::io;
 use std::io::Write;
 
 /// A listener to which each line is told behind who tells it, as `lattice node: r0: `: so of many nodes in one log it is
-/// known which speaks. A line of at most 96 bytes, and no node tells a longer one, is one write with its label. It takes
-/// no memory.
+/// known which speaks. A line of at most 96 bytes, as all are but those that tell of a folder, is handed on with its
+/// label, as one. It takes no memory.
 #[derive(Drop)]
 pub struct Labelled<E: Listener + Drop> {
     label: ArrayString<24>,
@@ -34,9 +34,10 @@ impl<E: Listener + Drop> Labelled<E> {
         Labelled { label, listener }
     }
 
-    /// Tells one line, its end with it.
+    /// Tells one line, its end with it, behind the label. The refusal is that of [`la_io::tell_all`]: a front of both may
+    /// have been told then.
     pub fn tell(&mut self, line: &[u8]) -> Result<(), WriteFailed>
-        ensures one { length line.now ≤ 96 → OnOk result (Writes E.contents self.old.listener self.new.listener
+        ensures ok { OnOk result (Writes E.contents self.old.listener self.new.listener
             (self.old.label.bytes ++ line.now)) }
         ensures label { self.new.label ≡ self.old.label }
     {

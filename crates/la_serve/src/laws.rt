@@ -23,8 +23,9 @@ pub fn node_lives_are_one_run<D: Disk>()
 }
 
 /// Nodes of a group, each a process of its own, are together: whatever lines of theirs they take, be they late, again, in
-/// any order or never, whatever calls clients hand them, and whoever is killed at any moment and started again. So what they keep, the letters that they write and the sets that they note as learnt are
-/// those of one group, of which [`la_world::live::replicas_together_keep_promises`] says what holds.
+/// any order or never, whatever calls clients hand them, and whoever is killed at any moment and started again. So what
+/// they keep, the letters that they write and the sets that they note as learnt are those of one group, of which
+/// [`la_world::live::replicas_together_keep_promises`] says what holds.
 pub fn processes_stay_together()
     ensures new { NewProcessesAreTogether }
     ensures turns { TurnsKeepTogether }
