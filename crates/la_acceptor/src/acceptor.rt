@@ -34,6 +34,14 @@ impl Acceptor {
         }
     }
 
+    /// The acceptor that has accepted this set: one that is taken up again. It takes no memory, and
+    /// the cost is constant.
+    pub fn resumed(accepted: UpdateSet) -> Acceptor
+        ensures { result ≡ accepted }
+    {
+        Acceptor { accepted }
+    }
+
     /// The accepted set, at constant cost.
     pub fn accepted(&self) -> &UpdateSet
         ensures { result.now ≡ self.now }
