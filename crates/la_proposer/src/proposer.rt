@@ -15,6 +15,7 @@ ghost use Rattle.la_proposer.specs.Invariant.{IsProposerState};
 
 mod admitting;
 mod preparing;
+mod resuming;
 
 use crate::tally::{self, Counted, Verdict};
 use crate::{Ballot, Change, Heard, ProposerError, Status, Votes};
