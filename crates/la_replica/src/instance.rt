@@ -36,7 +36,8 @@ use la_proposer::{Ballot, Heard, Proposer, Verdict, Votes};
 use la_set::{Counts, Op, SetError, UpdateId, UpdateSet};
 use std::alloc::{AllocError, Global};
 
-/// What a replica keeps of one instance.
+/// What a replica keeps of one instance: from these it is taken up again, by
+/// [`Replica::resumed`](crate::Replica::resumed).
 #[derive(Drop)]
 pub struct Instance {
     pub acceptor: Acceptor,
@@ -46,7 +47,7 @@ pub struct Instance {
 }
 
 impl Instance {
-    pub fn new(alloc: Global, own: u8, cap: u32, votes: Votes) -> Instance
+    pub(crate) fn new(alloc: Global, own: u8, cap: u32, votes: Votes) -> Instance
         requires known { own < length (votes_of votes) }
         requires few { length (votes_of votes) ≤ 8 }
         requires some { 1 ≤ cap }
@@ -60,7 +61,7 @@ impl Instance {
         }
     }
 
-    pub fn copy(&self) -> Result<Instance, AllocError>
+    pub(crate) fn copy(&self) -> Result<Instance, AllocError>
         ensures { IfOk result (λ copy. copy ≡ self.now) }
     {
         Ok(Instance {
@@ -74,7 +75,7 @@ impl Instance {
     }
 
     // Prepares a submission: its ballot opens, or it waits.
-    pub fn prepare_submission(
+    pub(crate) fn prepare_submission(
         &self,
         alloc: Global,
         sender: &Sender,
@@ -130,7 +131,7 @@ impl Instance {
     }
 
     // What that delta stands for.
-    pub fn rebuilt(&self, message: &Message) -> Result<Option<UpdateSet>, SetError>
+    pub(crate) fn rebuilt(&self, message: &Message) -> Result<Option<UpdateSet>, SetError>
         ensures ok { IfOk result (λ set. set ≡ rebuilt_at self.now message.now) }
         ensures stands { IfOk result (λ _. StandsAt self.now message.now) }
         ensures free { told_at self.now message.now ≡ None → IsOk result }
@@ -144,7 +145,7 @@ impl Instance {
 
     // The same of a message that is known to stand and to agree here, where its delta was made from a
     // list: else the delta lends it.
-    pub fn made(&self, message: &Message) -> Result<Option<UpdateSet>, AllocError>
+    pub(crate) fn made(&self, message: &Message) -> Result<Option<UpdateSet>, AllocError>
         requires stands { StandsAt self.now message.now }
         requires agrees { AgreesAt self.now message.now }
         ensures ok { IfOk result (λ set. set ≡ made_at self.now message.now) }
@@ -160,7 +161,11 @@ impl Instance {
     }
 
     // The message with its whole set: what its delta lends, or this, which was made.
-    pub fn whole<'a>(&'a self, message: &'a Message, made: Option<&'a UpdateSet>) -> Whole<'a>
+    pub(crate) fn whole<'a>(
+        &'a self,
+        message: &'a Message,
+        made: Option<&'a UpdateSet>,
+    ) -> Whole<'a>
         requires stands { StandsAt self.now message.now }
         requires agrees { AgreesAt self.now message.now }
         requires made { option_copied made ≡ made_at self.now message.now }
@@ -177,7 +182,7 @@ impl Instance {
 
     // Whether what a message to this instance asks for would be done, memory apart; and where it is
     // a reply, the verdict on it. Its set is known to have within these counts what is here.
-    pub fn admit_message(
+    pub(crate) fn admit_message(
         &self,
         message: Whole<'_>,
         known: Counts,
@@ -221,7 +226,7 @@ impl Instance {
     }
 
     // The verdict on a message, where it is a reply.
-    pub fn verdict(&self, message: Whole<'_>) -> Option<Verdict>
+    pub(crate) fn verdict(&self, message: Whole<'_>) -> Option<Verdict>
         ensures { IsVerdictOn self.now (lent_message message.entry) result
             (lent_body message.entry.body) }
     {
@@ -235,7 +240,7 @@ impl Instance {
     }
 
     // In instance 0, the set that may become the view by a message with this verdict.
-    pub fn candidate<'a>(
+    pub(crate) fn candidate<'a>(
         &'a self,
         verdict: Option<Verdict>,
         message: Whole<'a>,
@@ -258,7 +263,7 @@ impl Instance {
     // Prepares what a message to this instance asks for, which is admitted with this verdict, and
     // by which the view is taken or not.
     #[inline(always)]
-    pub fn prepare(
+    pub(crate) fn prepare(
         &self,
         alloc: Global,
         sender: &Sender,
@@ -350,7 +355,7 @@ impl Instance {
 
     // Adds what a timer should send once more: the open ballot's offers to those of whom no reply
     // has counted, and the tells of what was learnt last.
-    pub fn again(&self, mail: &mut Mail, sender: &Sender) -> Result<(), AllocError>
+    pub(crate) fn again(&self, mail: &mut Mail, sender: &Sender) -> Result<(), AllocError>
         ensures ok { OnOk result (Adds mail.old mail.new (again_in sender.now self.now)) }
         ensures told { (offered : Counts) → OnOk result (AddsTold self.now.proposer
             sender.now.instance offered mail.old mail.new) }
@@ -362,7 +367,7 @@ impl Instance {
 
     // Does what was prepared from this very instance. It can't be refused, and takes no memory.
     #[inline(always)]
-    pub fn commit(
+    pub(crate) fn commit(
         &mut self,
         accepted: Option<UpdateSet>,
         proposer: Option<la_proposer::Change>,

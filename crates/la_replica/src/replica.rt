@@ -1,5 +1,5 @@
 ghost use Rattle.std.specs.Prelude.{◌≡◌, ◌≢◌, ◌+◌, ◌*◌, ◌<◌, ◌≤◌, length, slice_get, ℕ};
-ghost use Rattle.std.specs.Prelude.{[], true, Some, None, IsOk, IfOk, IfErr, IfSome, OnOk, OnErr};
+ghost use Rattle.std.specs.Prelude.{[], true, Some, None, IsOk, IfOk, IfErr, IfSome, IsTrue, OnOk, OnErr};
 ghost use Rattle.std.specs.Option.{option_copied};
 ghost use Rattle.la_set.specs.Histories.{empty};
 ghost use Rattle.la_set.specs.Counts.{within};
@@ -26,11 +26,13 @@ ghost use Rattle.la_replica.specs.Changes.{IsVerdictIn, IsDecidedIn, candidate};
 ghost use Rattle.la_replica.specs.Prepared.{PreparesReceiptIn, PreparesSubmissionIn};
 ghost use Rattle.la_replica.specs.Again.{again};
 ghost use Rattle.la_replica.specs.Progress.{progress_of};
+ghost use Rattle.la_replica.specs.Resuming.{may_resume_replica, replica_from, resumed_replica};
 ghost use Rattle.la_replica.specs.Parcels.{view_of, unwrapped_in, UnwrapsIn, base_of_told, TellsNothing};
 ghost use Rattle.la_replica.specs.Parcels.{IsUnwrapRefusal, IsParcelRefusal};
 
 use crate::change::agreed_next;
 use crate::instance::Instance;
+use crate::resumed::may_resume;
 use crate::sender::Sender;
 use crate::view::{is_taken, is_taken_fitting};
 use crate::whole::{Whole, WholeBody};
@@ -97,6 +99,40 @@ impl Replica {
             view: UpdateSet::new(alloc),
             agreed: Counts::zero(),
         })
+    }
+
+    /// The replica with these parts, one that goes on where another stopped: of each instance, from 0
+    /// on, what it keeps there, and the view. `None` comes exactly where no replica has them: where `own`
+    /// is out of the group, there is no instance, or more than 33, or the proposer of one is not this
+    /// replica of this group. Then the parts are dropped. It takes no memory, and the cost is that of a
+    /// look at each instance.
+    pub fn resumed(
+        votes: Votes,
+        own: u8,
+        instances: Vec<Instance>,
+        view: UpdateSet,
+    ) -> Option<Replica>
+        ensures { result ≡ resumed_replica (replica_from votes own instances.items view) }
+    {
+        if !may_resume(&votes, own, &instances) {
+            return None;
+        }
+        Some(Replica {
+            votes,
+            own,
+            instances,
+            view,
+            agreed: Counts::zero(),
+        })
+    }
+
+    /// What it keeps of each instance, from 0 on, at constant cost. Its contract also tells that
+    /// the replica may be taken up again from its parts.
+    pub fn instances(&self) -> &[Instance]
+        ensures instances { result.now ≡ self.now.instances }
+        ensures resumable { IsTrue (may_resume_replica self.now) }
+    {
+        &self.instances
     }
 
     /// A copy. It is refused for want of memory alone. The cost is that of copying every set that it
