@@ -8,3 +8,4 @@ mod Participants
 mod Voters
 mod Returning
 pub mod Nodes
+pub mod Resuming

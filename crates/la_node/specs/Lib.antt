@@ -8,3 +8,4 @@ pub mod Accepting
 pub mod Telling
 pub mod Steps
 pub mod Links
+pub mod Resuming

@@ -1,4 +1,7 @@
-// What holds of a node's steps: laws over the definitions, which no code runs.
+// What holds of a node and its steps: laws over the definitions, which no code runs.
+ghost use Rattle.std.specs.Prelude.{◌↔◌, IsTrue};
+ghost use Rattle.la_node.specs.Nodes.{NodeState, IsNode};
+ghost use Rattle.la_node.specs.Resuming.{may_resume_node};
 ghost use Rattle.la_node.specs.Steps.{KeptListsLeadOn, KeptListsArePlayedAgain, StepViewsGrow};
 ghost use Rattle.la_node.specs.Steps.{RefusedCallsAreNoSteps, StillMessagesChangeNothing};
 
@@ -30,4 +33,10 @@ pub fn still_messages_change_nothing()
 /// memory are those that have one.
 pub fn refused_calls_are_no_steps()
     ensures { RefusedCallsAreNoSteps }
+{}
+
+/// A node may be made again of its replica, with a shelf that has absorbed no more than its view: the test
+/// decides whether a replica and a shelf are those of a node.
+pub fn nodes_may_be_resumed()
+    ensures { (node : NodeState) → IsTrue (may_resume_node node) ↔ IsNode node }
 {}

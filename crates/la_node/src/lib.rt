@@ -14,6 +14,7 @@ pub mod laws;
 mod link;
 mod node;
 mod participant;
+mod resumed;
 
 pub use config::Config;
 pub use done::{Done, Voted};

@@ -25,11 +25,13 @@ ghost use Rattle.la_node.specs.Links.{standing_of};
 ghost use Rattle.la_node.specs.Preparing.{FitsHere};
 ghost use Rattle.la_node.specs.Calls as call;
 ghost use Rattle.la_node.specs.Steps.{node_step, given_out, given_of, given_due};
+ghost use Rattle.la_node.specs.Resuming.{are_participants, may_resume_node, resumed_node};
 ghost use Rattle.la_node.specs.Nodes.{followed, with_shelf, MayStart, node_at_start};
 ghost use Rattle.la_node.specs.Nodes.{IsStartRefusal, IsProposeRefusal, IsObservedRefusal};
 ghost use Rattle.la_node.specs.Nodes.{outcome_due, OutcomesStayIn, ReturnsIn, LeftUntoldNode};
 
 use crate::participant::{for_memory, outcome_by, returned, take_prepared};
+use crate::resumed::are_participants;
 use crate::{Config, Done, Standing, WorldError};
 use la_commit::{Fresh, MAX_COMMITS, Outcome, first_instance};
 use la_object::{Answer, Query, Replicated, Shelf, ShelfError, State};
@@ -99,6 +101,29 @@ impl<B: Replicated> Node<B> {
             config.votes,
         )?;
         Ok(Node { replica, shelf })
+    }
+
+    /// The node of a replica that is taken up again, with a shelf. `None` comes exactly where no node has
+    /// them: where the shelf has absorbed what the replica's view has not, or the replica's instances
+    /// are not those of a participant of adopt-commit objects, which votes once in each. Then both are
+    /// dropped. It takes no memory. The cost is that of comparing the shelf's view with the replica's,
+    /// and of a look at each instance.
+    pub fn resumed(replica: Replica, shelf: Shelf<B>) -> Option<Node<B>>
+        ensures { result ≡ resumed_node (record { replica = replica; shelf = shelf }) }
+    {
+        if !may_resume(&replica, &shelf) {
+            return None;
+        }
+        Some(Node { replica, shelf })
+    }
+
+    /// Its replica, at constant cost. Its contract also tells that a node may be made of it again,
+    /// with any shelf that has absorbed no more than its view.
+    pub fn replica(&self) -> &Replica
+        ensures replica { result.now ≡ self.now.replica }
+        ensures resumable { IsTrue (are_participants self.now.replica.instances) }
+    {
+        &self.replica
     }
 
     /// Which replica of its group it is, from 0 on.
@@ -478,4 +503,11 @@ fn may_start<B: Replicated>(config: &Config, shelf: &Shelf<B>) -> bool
     ensures { IsTrue result ↔ MayStart config.now shelf.now }
 {
     config.is_group() && shelf.view().len() == 0
+}
+
+// Whether a node may be made of these, a replica that is taken up again among them.
+fn may_resume<B: Replicated>(replica: &Replica, shelf: &Shelf<B>) -> bool
+    ensures { result ≡ may_resume_node (record { replica = replica.now; shelf = shelf.now }) }
+{
+    replica.view().contains_all(shelf.view()) && are_participants(replica.instances())
 }
