@@ -1,5 +1,5 @@
 -- What a prepared change leads to.
-use Rattle.std.proofs.Common.{◌≡◌, ℕ, Bool, Some, None, not, cond, inl, inr, ◌+◌, ◌<◌, true, false, List, [], ◌∷◌, ◌++◌, length, refl, ap, sym, ◌∙◌, subst, arith}
+use Rattle.std.proofs.Common.{◌≡◌, ℕ, Bool, Some, None, not, cond, inl, inr, ◌+◌, ◌<◌, true, false, true≢false, List, [], ◌∷◌, ◌++◌, length, refl, ap, sym, ◌∙◌, subst, arith}
 use Rattle.std.proofs.lemmas.List.{length-append, get_or_push}
 use Rattle.std.proofs.Math.Seq.{take-append_seam}
 use Rattle.std.proofs.lemmas.Bool.{cases_lt}
@@ -15,7 +15,7 @@ use Rattle.la_proposer.specs.declared.change.Told.{Told}
 use Rattle.la_proposer.specs.declared.change.Change.TheVariants.{Nothing, Holds, Submits, Counts, Opens, Closes}
 use Rattle.la_proposer.specs.declared.tally.Counted.{Counted}
 use Rattle.la_proposer.specs.Tally.{has_counted, tally_with, with_refusal, joined_with_refusals}
-use Rattle.la_proposer.specs.ProposerState.{ProposerState, submitted, with_more, with_waiting, told_by, noted, with_reply, next_ballot, after_opening, refined_ballot, after_refinement, closed, is_nothing, submission_opens, after_submission, learning_opens, after_learning}
+use Rattle.la_proposer.specs.ProposerState.{ProposerState, WaitsOnlyAsking, submitted, with_more, with_waiting, told_by, noted, with_reply, next_ballot, after_opening, refined_ballot, after_refinement, closed, is_nothing, submission_opens, after_submission, learning_opens, after_learning}
 use Rattle.la_proposer.specs.Inputs.{all_submitted}
 use Rattle.la_proposer.specs.Refusals.{SubmissionSpends, StepSpends}
 use Rattle.la_proposer.specs.Clashes.{Fits, Agrees}
@@ -29,28 +29,44 @@ use Rattle.la_proposer.proofs.Once.{few_counted}
 use Rattle.la_proposer.proofs.OneEach.{one_each-none, one_each-push, agrees-joined}
 use Rattle.la_proposer.proofs.Refusing.{joined-append}
 
+-- while it asks, submissions may wait
+asks_waits : (q : ProposerState) → q.is_asking ≡ true → WaitsOnlyAsking q
+asks_waits q asks idle = absurd (true≢false (sym asks ∙ idle))
+
 module _ (p : ProposerState) (t : Histories) (is : IsRepresented p t) where
   -- the same, with the submissions as they are written down
   is_written : IsRepresented p (alone p.own (all_submitted p))
   is_written = subst (IsRepresented p) is.held is
 
-  pub nothing_leads : Leads p Nothing p
+  pub nothing_leads : WaitsOnlyAsking p → Leads p Nothing p
   unfolding after_commit IsPreparedFrom
-  nothing_leads = record {
-    to = stands p _ is_written (last_of p) p.tally _ refl refl refl;
-    from = (stands-represented p _ is_written (last_of p) p.tally _ refl refl refl, tt);
-  }
+  nothing_leads rests =
+      let to = stands p _ is_written (last_of p) p.tally _ refl refl refl in
+      record {
+        to = to;
+        from = (
+          stands-represented p _ is_written (last_of p) p.tally _ refl refl refl,
+          tt,
+          subst WaitsOnlyAsking (sym to) rests,
+        );
+      }
 
   module _ (d : ObjectOp) (s : Histories) (s_is : s ≡ with_more t p.own (d ∷ [])) (room : submitted p < p.cap) where
     held : IsRepresented (with_waiting p d) s
     held = subst (IsRepresented (with_waiting p d)) (sym s_is) (holding_represented p t is d room)
 
-    pub holds_leads : Leads p (Holds s) (with_waiting p d)
+    pub holds_leads : p.is_asking ≡ true → Leads p (Holds s) (with_waiting p d)
     unfolding after_commit IsPreparedFrom
-    holds_leads = record {
-      to = stands (with_waiting p d) s held (last_of p) p.tally s refl refl refl;
-      from = (stands-represented (with_waiting p d) s held (last_of p) p.tally s refl refl refl, tt);
-    }
+    holds_leads asking =
+        let to = stands (with_waiting p d) s held (last_of p) p.tally s refl refl refl in
+        record {
+          to = to;
+          from = (
+            stands-represented (with_waiting p d) s held (last_of p) p.tally s refl refl refl,
+            tt,
+            subst WaitsOnlyAsking (sym to) (asks_waits (with_waiting p d) asking),
+          );
+        }
 
     pub held_fit : IsCompatible p.updates s
     held_fit = submissions_fit (with_waiting p d) s held
@@ -64,9 +80,14 @@ module _ (p : ProposerState) (t : Histories) (is : IsRepresented p t) where
         let q = with_waiting p d in
         let last_is = held_taking b b_is in
         let opened = opening_represented q s held left in
+        let to = stands (after_opening q) s opened b [] s last_is refl refl in
         record {
-          to = stands (after_opening q) s opened b [] s last_is refl refl;
-          from = (stands-represented (after_opening q) s opened b [] s last_is refl refl, tt);
+          to = to;
+          from = (
+            stands-represented (after_opening q) s opened b [] s last_is refl refl,
+            tt,
+            subst WaitsOnlyAsking (sym to) (asks_waits (after_opening q) refl),
+          );
         }
 
   module _ (from : ℕ) (reply : Reply) (asking : p.is_asking ≡ true) (in_group : from < length p.votes)
@@ -76,14 +97,17 @@ module _ (p : ProposerState) (t : Histories) (is : IsRepresented p t) where
 
     pub counts_leads : Leads p (Counts (record { from = from; reply = reply })) (with_reply p from reply)
     unfolding after_commit IsPreparedFrom
-    counts_leads = record {
-      to = stands (with_reply p from reply) _ counted (last_of p) (tally_with p.tally from reply) _ refl refl refl;
-      from = (
-        stands-represented (with_reply p from reply) _ counted (last_of p) (tally_with p.tally from reply) _ refl refl
-            refl,
-        tt,
-      );
-    }
+    counts_leads =
+        let to = stands (with_reply p from reply) _ counted (last_of p) (tally_with p.tally from reply) _ refl refl refl in
+        record {
+          to = to;
+          from = (
+            stands-represented (with_reply p from reply) _ counted (last_of p) (tally_with p.tally from reply) _ refl
+                refl refl,
+            tt,
+            subst WaitsOnlyAsking (sym to) (asks_waits (with_reply p from reply) asking),
+          );
+        }
 
     -- what was joined before agrees with the reply
     pub agrees_last : (set : Histories) → set ≡ joined_with_refusals p.updates p.tally → Agrees set reply
@@ -103,11 +127,12 @@ module _ (p : ProposerState) (t : Histories) (is : IsRepresented p t) where
         set_is ∙ ap (λ u. with_refusal u reply) joined_is ∙ sym (joined-append p.updates p.tally c) in
         let last_is : b ≡ refined_ballot q = b_is ∙ ap (λ u. record { number = p.number + 1; updates = u }) updates_is in
         let refined = refinement_represented q _ counted left in
-        let asks : (after_refinement q).is_asking ≡ true = asking in (
+        let asks : (after_refinement q).is_asking ≡ true = asking in
+        let to =
+        (λ i. proposer_state_of p.votes p.own p.cap b (sym asking i) [] (alone p.own (all_submitted p)) q.reported)
+        ∙ stands (after_refinement q) _ refined b [] _ last_is refl refl in (
           record {
-            to =
-                (λ i. proposer_state_of p.votes p.own p.cap b (sym asking i) [] (alone p.own (all_submitted p)) q.reported)
-                ∙ stands (after_refinement q) _ refined b [] _ last_is refl refl;
+            to = to;
             from = (
               subst
                   (λ a.
@@ -116,6 +141,7 @@ module _ (p : ProposerState) (t : Histories) (is : IsRepresented p t) where
                   (alone p.own (all_submitted p))) asking
                   (stands-represented (after_refinement q) _ refined b [] _ last_is refl refl),
               in_group,
+              subst WaitsOnlyAsking (sym to) (asks_waits (after_refinement q) asks),
             );
           },
           last_is,
@@ -130,10 +156,15 @@ module _ (p : ProposerState) (t : Histories) (is : IsRepresented p t) where
     opens_leads b b_is left =
         let q = noted p from reply in
         let last_is : b ≡ next_ballot p = b_is ∙ (λ i. record { number = p.number + 1; updates = taking_is p t is i }) in
-        let opened = opening_represented q _ heard left in (
+        let opened = opening_represented q _ heard left in
+        let to = stands (after_opening q) _ opened b [] _ last_is refl refl in (
           record {
-            to = stands (after_opening q) _ opened b [] _ last_is refl refl;
-            from = (stands-represented (after_opening q) _ opened b [] _ last_is refl refl, in_group);
+            to = to;
+            from = (
+              stands-represented (after_opening q) _ opened b [] _ last_is refl refl,
+              in_group,
+              subst WaitsOnlyAsking (sym to) (asks_waits (after_opening q) refl),
+            );
           },
           last_is,
         )
@@ -156,13 +187,19 @@ module _ (p : ProposerState) (t : Histories) (is : IsRepresented p t) where
       held = refl;
     }
 
-    pub closes_leads : Leads p (Closes (record { from = from; counts = told_by p.updates reply })) (closed (noted p from reply))
+    pub closes_leads : p.waiting ≡ [] → Leads p (Closes (record { from = from; counts = told_by p.updates reply })) (closed (noted p from reply))
     unfolding after_commit IsPreparedFrom
-    closes_leads = record {
-      to = stands (closed (noted p from reply)) _ closed_represented (last_of p) [] _ refl refl refl;
-      from =
-          (stands-represented (closed (noted p from reply)) _ closed_represented (last_of p) [] _ refl refl refl, in_group);
-    }
+    closes_leads none =
+        let to = stands (closed (noted p from reply)) _ closed_represented (last_of p) [] _ refl refl refl in
+        let rests : WaitsOnlyAsking (closed (noted p from reply)) = λ _. none in
+        record {
+          to = to;
+          from = (
+            stands-represented (closed (noted p from reply)) _ closed_represented (last_of p) [] _ refl refl refl,
+            in_group,
+            subst WaitsOnlyAsking (sym to) rests,
+          );
+        }
 
 -- ## What is committed
 
@@ -180,7 +217,7 @@ module _ (x : Inside) (q : ProposerState) (view_is : stands_for x ≡ q) (change
       ∙ ap (λ r. after_commit r c) view_is
       ∙ ap (after_commit q) (sym same)
 
-  pub committed-represented : IsPreparedFrom q change
+  committed-represented : IsPreparedFrom q change
       → IsRepresented (proposer_state_of (votes_of x.votes) x.own x.cap last asking tally u reported) u
   unfolding after_commit IsPreparedFrom
   committed-represented from =
@@ -193,6 +230,12 @@ module _ (x : Inside) (q : ProposerState) (view_is : stands_for x ≡ q) (change
       (subst (λ ts. IsRepresented (proposer_state_of (votes_of x.votes) x.own x.cap last asking ts s told) s) (sym tally_is)
       (subst (λ a. IsRepresented (proposer_state_of (votes_of x.votes) x.own x.cap last a (tally_after (stands_for x) c) s told) s) (sym asking_is)
       (subst (λ b. IsRepresented (proposer_state_of (votes_of x.votes) x.own x.cap b (asking_after (stands_for x) c) (tally_after (stands_for x) c) s told) s) (sym last_is) made))))
+
+  pub committed_holds : IsPreparedFrom q change
+      → IsRepresented (proposer_state_of (votes_of x.votes) x.own x.cap last asking tally u reported) u
+      × WaitsOnlyAsking (proposer_state_of (votes_of x.votes) x.own x.cap last asking tally u reported)
+  unfolding IsPreparedFrom
+  committed_holds from = (committed-represented from, subst WaitsOnlyAsking (sym committed) from.2)
 
 -- where one reply more is a proposer's, there is room for it
 pub has_room : (p : ProposerState) (change : Change) (c : Counted) → change ≡ Counts c → IsPreparedFrom p change

@@ -72,7 +72,7 @@ has_no_more_own-Decides : (s : Histories) (own : ℕ) (r : Reply) → Decides (h
 has_no_more_own-Decides s own Yes = ((λ _. tt), λ _. refl)
 has_no_more_own-Decides s own (No t) = Decides-leb (count t own) (count s own)
 
-none_of : {X : Type 0} (xs : List X) → length xs ≡ 0 → xs ≡ []
+pub none_of : {X : Type 0} (xs : List X) → length xs ≡ 0 → xs ≡ []
 none_of [] e = refl
 none_of (x ∷ xs) e = absurd (omega (arith, e))
 
@@ -227,10 +227,19 @@ resumable_known p e =
 pub not_all : (p : ProposerState) (s : Histories) → ¬ (s ≡ submissions_of p) → false ≡ is_all_submitted p s
 not_all p s fails = sym (false_from_ne_true (is_all_submitted p s) (λ e. fails ((all_submitted-Decides p s).0 e)))
 
-pub resumes : (x : ProposerParts) → parts_may_resume x ≡ true → IsRepresented (state_from x) x.submissions
+pub resumes : (x : ProposerParts) → parts_may_resume x ≡ true
+    → IsRepresented (state_from x) x.submissions × WaitsOnlyAsking (state_from x)
 resumes x e =
     let both = and_parts (may_resume (state_from x)) (is_all_submitted (state_from x) x.submissions) e in
-    record {
-      proposer_state = ((may_resume-Decides (state_from x)).0 both.0).is_proposer;
-      held = (all_submitted-Decides (state_from x) x.submissions).0 both.1;
-    }
+    let may = (may_resume-Decides (state_from x)).0 both.0 in (
+      record {
+        proposer_state = may.is_proposer;
+        held = (all_submitted-Decides (state_from x) x.submissions).0 both.1;
+      },
+      may.waits,
+    )
+
+-- every proposer may be
+pub proposers_resume : (p : ProposerState) (t : Histories) → IsRepresented p t × WaitsOnlyAsking p → may_resume p ≡ true
+proposers_resume p t is =
+    (may_resume-Decides p).1 (record { is_proposer = is.0.proposer_state; waits = is.1 })

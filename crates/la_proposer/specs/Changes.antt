@@ -12,7 +12,7 @@ use Rattle.la_proposer.specs.declared.change.Change.TheVariants.{Nothing, Holds,
 use Rattle.la_proposer.specs.declared.change.Told.{Told}
 use Rattle.la_proposer.specs.declared.heard.Heard.{Heard}
 use Rattle.la_proposer.specs.declared.tally.Counted.{Counted}
-use Rattle.la_proposer.specs.ProposerState.{ProposerState, told_by, submission_opens, after_submission}
+use Rattle.la_proposer.specs.ProposerState.{ProposerState, WaitsOnlyAsking, told_by, submission_opens, after_submission}
 use Rattle.la_proposer.specs.ProposerState.{heard_of, after_reply}
 use Rattle.la_proposer.specs.Inputs.{all_submitted}
 use Rattle.la_proposer.specs.Fields.{alone, proposer_state_of, IsRepresented}
@@ -90,9 +90,12 @@ EndsByOneOf p (Holds s) = Unit {0}
 EndsByOneOf p (Submits b s) = Unit {0}
 EndsByOneOf p (Counts c) = Unit {0}
 
--- it was prepared from this proposer: the fields that it leads to are a proposer's
+-- it was prepared from this proposer: the fields that it leads to are a proposer's, in which
+-- submissions wait only while a ballot is open
 unfoldable pub IsPreparedFrom : ProposerState → Change → Type 0
-IsPreparedFrom p c = IsRepresented (after_commit p c) (submissions_after p c) × EndsByOneOf p c
+IsPreparedFrom p c =
+    IsRepresented (after_commit p c) (submissions_after p c) × EndsByOneOf p c
+    × WaitsOnlyAsking (after_commit p c)
 
 -- it was prepared from this proposer, and leads there once it is committed
 pub record Leads (p : ProposerState) (c : Change) (after : ProposerState) : Type 0 where

@@ -1,8 +1,8 @@
 // A proposer that is taken apart, and taken up again.
-ghost use Rattle.std.specs.Prelude.{◌≡◌};
+ghost use Rattle.std.specs.Prelude.{◌≡◌, IsTrue};
 ghost use Rattle.la_proposer.specs.Majority.{votes_of};
 ghost use Rattle.la_proposer.specs.Changes.{last_of};
-ghost use Rattle.la_proposer.specs.Resuming.{resumed_from, submissions_of};
+ghost use Rattle.la_proposer.specs.Resuming.{resumed_from, submissions_of, may_resume};
 
 use super::Proposer;
 use crate::{Ballot, Counted, ProposerParts, Votes};
@@ -73,9 +73,11 @@ impl Proposer {
     }
 
     /// All that it has submitted, as one set, which has no other replica's updates: what the last
-    /// ballot's set lacks of it waits. The cost is constant.
+    /// ballot's set lacks of it waits. The cost is constant. Its contract also tells that the proposer
+    /// may be taken up again from its parts, at any time.
     pub fn submissions(&self) -> &UpdateSet
-        ensures { result.now ≡ submissions_of self.now }
+        ensures submissions { result.now ≡ submissions_of self.now }
+        ensures resumable { IsTrue (may_resume self.now) }
     {
         &self.submissions
     }

@@ -4,7 +4,7 @@ use Rattle.la_proposer.specs.declared.change.Change.TheVariants.{Nothing, Holds,
 use Rattle.la_proposer.specs.ProposerState.{ProposerState}
 use Rattle.la_proposer.specs.Fields.{stands_for}
 use Rattle.la_proposer.specs.Changes.{after_commit, Leads}
-use Rattle.la_proposer.proofs.Preparing.{nothing_leads, committed, committed-represented, has_room, counts_known, opens_known, closes_known}
+use Rattle.la_proposer.proofs.Preparing.{nothing_leads, committed, committed_holds, has_room, counts_known, opens_known, closes_known}
 use Rattle.la_proposer.proofs.proposer.Proposer.commit.Goals as goal
 
 pub bounds-self-inside-counted : goal.bounds-self-inside-counted
@@ -33,7 +33,7 @@ push_reserved-requires c =
 
 pub invariant_of-self : goal.invariant_of-self
 invariant_of-self c =
-    committed-represented c.self.inside c.args.self.now c.self.view_is c.args.change (Holds c.in-Holds.submissions)
+    committed_holds c.self.inside c.args.self.now c.self.view_is c.args.change (Holds c.in-Holds.submissions)
     c.in-Holds.is c.self.inside.last c.self.inside.is_asking c.self.inside.tally.items c.in-Holds.submissions
     c.self.inside.reported refl refl refl refl refl c.requires
 
@@ -45,7 +45,7 @@ returns-in-Holds c =
 
 pub invariant_of-self-in-Submits : goal.invariant_of-self-in-Submits
 invariant_of-self-in-Submits c =
-    committed-represented c.self.inside c.args.self.now c.self.view_is c.args.change
+    committed_holds c.self.inside c.args.self.now c.self.view_is c.args.change
     (Submits c.in-Submits.ballot c.in-Submits.submissions) c.in-Submits.is c.in-Submits.ballot true
     c.clear.new.self.items c.in-Submits.submissions c.self.inside.reported refl refl c.clear.ensures.items refl refl
     c.requires
@@ -58,10 +58,10 @@ returns-in-Submits c =
 
 pub invariant_of-self-in-Counts : goal.invariant_of-self-in-Counts
 invariant_of-self-in-Counts c =
-    committed-represented c.self.inside c.args.self.now c.self.view_is c.args.change (Counts c.in-Counts.counted)
+    committed_holds c.self.inside c.args.self.now c.self.view_is c.args.change (Counts c.in-Counts.counted)
     c.in-Counts.is c.self.inside.last c.self.inside.is_asking c.push_reserved.new.self.items c.self.inside.submissions
     (slice_set c.self.inside.reported c.in-Counts.counted.from c.by-told.result.counts) refl refl
-    c.push_reserved.ensures.items c.self.invariant.held
+    c.push_reserved.ensures.items c.self.invariant.0.held
     (ap (λ (z : Told). slice_set c.self.inside.reported c.in-Counts.counted.from z.counts) c.by-told.ensures) c.requires
 
 pub returns-in-Counts : goal.returns-in-Counts
@@ -69,32 +69,39 @@ returns-in-Counts c =
     committed c.self.inside c.args.self.now c.self.view_is c.args.change (Counts c.in-Counts.counted) c.in-Counts.is
     c.self.inside.last c.self.inside.is_asking c.push_reserved.new.self.items c.self.inside.submissions
     (slice_set c.self.inside.reported c.in-Counts.counted.from c.by-told.result.counts) refl refl
-    c.push_reserved.ensures.items c.self.invariant.held
+    c.push_reserved.ensures.items c.self.invariant.0.held
     (ap (λ (z : Told). slice_set c.self.inside.reported c.in-Counts.counted.from z.counts) c.by-told.ensures)
 
 pub invariant_of-self-in-Opens : goal.invariant_of-self-in-Opens
 invariant_of-self-in-Opens c =
-    committed-represented c.self.inside c.args.self.now c.self.view_is c.args.change
+    committed_holds c.self.inside c.args.self.now c.self.view_is c.args.change
     (Opens c.in-Opens.ballot c.in-Opens.told) c.in-Opens.is c.in-Opens.ballot true c.clear-in-Opens.new.self.items
     c.self.inside.submissions (slice_set c.self.inside.reported c.in-Opens.told.from c.in-Opens.told.counts) refl refl
-    c.clear-in-Opens.ensures.items c.self.invariant.held refl c.requires
+    c.clear-in-Opens.ensures.items c.self.invariant.0.held refl c.requires
 
 pub returns-in-Opens : goal.returns-in-Opens
 returns-in-Opens c =
     committed c.self.inside c.args.self.now c.self.view_is c.args.change (Opens c.in-Opens.ballot c.in-Opens.told)
     c.in-Opens.is c.in-Opens.ballot true c.clear-in-Opens.new.self.items c.self.inside.submissions
     (slice_set c.self.inside.reported c.in-Opens.told.from c.in-Opens.told.counts) refl refl
-    c.clear-in-Opens.ensures.items c.self.invariant.held refl
+    c.clear-in-Opens.ensures.items c.self.invariant.0.held refl
 
 pub returns-in-Closes : goal.returns-in-Closes
 returns-in-Closes c =
     committed c.self.inside c.args.self.now c.self.view_is c.args.change (Closes c.in-Closes.told) c.in-Closes.is
     c.self.inside.last false c.clear-in-Closes.new.self.items c.self.inside.submissions
     (slice_set c.self.inside.reported c.in-Closes.told.from c.in-Closes.told.counts) refl refl
-    c.clear-in-Closes.ensures.items c.self.invariant.held refl
+    c.clear-in-Closes.ensures.items c.self.invariant.0.held refl
 
 pub returns-in-Nothing : goal.returns-in-Nothing
 returns-in-Nothing c =
     let p = stands_for c.self.inside in
-    sym (subst (λ q. Leads q Nothing q) c.self.view_is (nothing_leads p c.self.inside.submissions c.self.invariant)).to
+    sym (subst (λ q. Leads q Nothing q) c.self.view_is (nothing_leads p c.self.inside.submissions c.self.invariant.0 c.self.invariant.1)).to
     ∙ ap (after_commit c.args.self.now) (sym c.in-Nothing.is)
+
+pub invariant_of-self-in-Closes : goal.invariant_of-self-in-Closes
+invariant_of-self-in-Closes c =
+    committed_holds c.self.inside c.args.self.now c.self.view_is c.args.change (Closes c.in-Closes.told) c.in-Closes.is
+    c.self.inside.last false c.clear-in-Closes.new.self.items c.self.inside.submissions
+    (slice_set c.self.inside.reported c.in-Closes.told.from c.in-Closes.told.counts) refl refl
+    c.clear-in-Closes.ensures.items c.self.invariant.0.held refl c.requires

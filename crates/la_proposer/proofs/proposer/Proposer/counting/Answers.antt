@@ -5,6 +5,6 @@ use Rattle.la_proposer.proofs.proposer.Proposer.counting.Goals as goal
 
 pub returns : goal.returns
 returns c =
-    let is = subst (λ p. IsRepresented p c.self.inside.submissions) c.self.view_is c.self.invariant in
+    let is = subst (λ p. IsRepresented p c.self.inside.submissions) c.self.view_is c.self.invariant.0 in
     counts_leads c.args.self.now c.self.inside.submissions is c.args.from c.args.reply c.requires.asking
     c.requires.in_group c.requires.new c.requires.fits

@@ -14,7 +14,7 @@ pub join_refusal-requires : goal.join_refusal-requires
 join_refusal-requires c =
     let q = c.args.self.now in
     let k = c.requires.countable in
-    let is = subst (λ p. IsRepresented p c.self.inside.submissions) c.self.view_is c.self.invariant in
+    let is = subst (λ p. IsRepresented p c.self.inside.submissions) c.self.view_is c.self.invariant.0 in
     let joined_is : c.join_refusals.new.set ≡ joined_with_refusals q.updates q.tally =
     c.in_ok-join_refusals.ensures ∙ (λ i. joined_with_refusals (c.in_ok-updates.ensures i) (c.as_slice.ensures i))
     ∙ ap (λ (p : ProposerState). joined_with_refusals p.updates p.tally) c.self.view_is in
@@ -25,7 +25,7 @@ pub returns : goal.returns
 returns c =
     let q = c.args.self.now in
     let k = c.requires.countable in
-    let is = subst (λ p. IsRepresented p c.self.inside.submissions) c.self.view_is c.self.invariant in
+    let is = subst (λ p. IsRepresented p c.self.inside.submissions) c.self.view_is c.self.invariant.0 in
     let joined_is : c.join_refusals.new.set ≡ joined_with_refusals q.updates q.tally =
     c.in_ok-join_refusals.ensures ∙ (λ i. joined_with_refusals (c.in_ok-updates.ensures i) (c.as_slice.ensures i))
     ∙ ap (λ (p : ProposerState). joined_with_refusals p.updates p.tally) c.self.view_is in
