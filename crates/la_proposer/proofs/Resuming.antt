@@ -1,8 +1,8 @@
 -- What the tests decide by which a proposer is taken up again.
-use Rattle.std.proofs.Common.{◌≡◌, ◌≢◌, ℕ, zero, suc, ◌<◌, ◌≤◌, ◌==◌, ◌&&◌, ◌||◌, Bool, true, false, true≢false, List, [], ◌∷◌, ◌++◌, length, drop, All, refl, ap, sym, ◌∙◌, subst, arith, inl, inr, leb}
+use Rattle.std.proofs.Common.{◌≡◌, ◌≢◌, ℕ, zero, suc, ◌<◌, ◌≤◌, ◌==◌, ◌&&◌, ◌||◌, Bool, true, false, true≢false, List, [], ◌∷◌, ◌++◌, length, drop, All, refl, ap, sym, ◌∙◌, subst, arith, inl, inr, leb, Some, None, if◌then◌else◌}
 use Rattle.std.specs.Bool.{Decides}
 use Rattle.std.specs.List.{list_all, AllPairs}
-use Rattle.std.proofs.lemmas.Bool.{cases_eq, leb-true, le-leb, and_parts, false_from_ne_true}
+use Rattle.std.proofs.lemmas.Bool.{cases_eq, leb-true, le-leb, and_parts, and_from, false_from_ne_true}
 use Rattle.std.proofs.lemmas.Bool.Decides.{Decides-and, Decides-like, Decides-by_and, Decides-ltb, Decides-eqb}
 use Rattle.std.proofs.lemmas.List.{length-append, take-append-drop}
 use Rattle.std.proofs.lemmas.List.Kept.{AllPairs-cons}
@@ -25,7 +25,7 @@ use Rattle.la_proposer.specs.ProposerState.{ProposerState, WaitsOnlyAsking, Coun
 use Rattle.la_proposer.specs.Clashes.{Agrees, AgreeBoth}
 use Rattle.la_proposer.specs.Fields.{alone, IsRepresented}
 use Rattle.la_proposer.specs.Invariant.{KnowsNoMore}
-use Rattle.la_proposer.specs.Resuming.{are_compatible, reply_agrees, replies_agree, agree_in_pairs, has_no_more_own, may_have_counted, have_counted_rightly, is_within_limits, keeps_only_asking, may_resume, IsResumable, submissions_of, is_all_submitted, state_from, parts_may_resume}
+use Rattle.la_proposer.specs.Resuming.{are_compatible, reply_agrees, replies_agree, agree_in_pairs, has_no_more_own, may_have_counted, have_counted_rightly, is_within_limits, keeps_only_asking, may_resume, IsResumable, submissions_of, is_all_submitted, state_from, parts_may_resume, resumed_from}
 use Rattle.la_proposer.proofs.Submissions.{history-alone, alone-compatible}
 
 -- ## Sets that agree
@@ -243,3 +243,16 @@ resumes x e =
 pub proposers_resume : (p : ProposerState) (t : Histories) → IsRepresented p t × WaitsOnlyAsking p → may_resume p ≡ true
 proposers_resume p t is =
     (may_resume-Decides p).1 (record { is_proposer = is.0.proposer_state; waits = is.1 })
+
+-- and is the same
+pub parts_resume : (x : ProposerParts) (p : ProposerState) → state_from x ≡ p
+    → IsRepresented p x.submissions × WaitsOnlyAsking p → resumed_from x ≡ Some p
+parts_resume x p same is =
+    let state : may_resume (state_from x) ≡ true =
+    subst (λ q. may_resume q ≡ true) (sym same) (proposers_resume p x.submissions is) in
+    let all : is_all_submitted (state_from x) x.submissions ≡ true =
+    subst (λ q. is_all_submitted q x.submissions ≡ true) (sym same)
+    ((all_submitted-Decides p x.submissions).1 is.0.held) in
+    ap (λ b. if b then Some (state_from x) else None)
+    (and_from (may_resume (state_from x)) (is_all_submitted (state_from x) x.submissions) state all)
+    ∙ ap Some same

@@ -1,12 +1,14 @@
 // A proposer that is taken apart, and taken up again.
-ghost use Rattle.std.specs.Prelude.{◌≡◌, IsTrue};
+ghost use Rattle.std.specs.Prelude.{◌≡◌, Some, IsTrue, IfOk};
 ghost use Rattle.la_proposer.specs.Majority.{votes_of};
 ghost use Rattle.la_proposer.specs.Changes.{last_of};
-ghost use Rattle.la_proposer.specs.Resuming.{resumed_from, submissions_of, may_resume};
+ghost use Rattle.la_proposer.specs.Resuming.{state_from, resumed_from, submissions_of, may_resume};
 
 use super::Proposer;
+use crate::tally::copy_tally;
 use crate::{Ballot, Counted, ProposerParts, Votes};
 use la_set::{Counts, UpdateSet};
+use std::alloc::AllocError;
 
 impl Proposer {
     /// The proposer with these parts: one that goes on where another stopped. `None` comes exactly
@@ -32,6 +34,24 @@ impl Proposer {
             tally: parts.tally,
             submissions: parts.submissions,
             reported: parts.reported,
+        })
+    }
+
+    /// Its parts, from which it is taken up again, the same. It is refused for want of memory alone. The
+    /// cost is that of [`Proposer::copy`].
+    pub fn parts(&self) -> Result<ProposerParts, AllocError>
+        ensures state { IfOk result (λ parts. state_from parts ≡ self.now) }
+        ensures resumed { IfOk result (λ parts. resumed_from parts ≡ Some self.now) }
+    {
+        Ok(ProposerParts {
+            own: self.own,
+            cap: self.cap,
+            votes: self.votes,
+            last: self.last.copy()?,
+            is_asking: self.is_asking,
+            tally: copy_tally(&self.tally)?,
+            submissions: self.submissions.copy()?,
+            reported: self.reported,
         })
     }
 
