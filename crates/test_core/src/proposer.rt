@@ -2,5 +2,6 @@
 mod beyond;
 mod plays;
 mod reports;
+mod resumed;
 mod runs;
 mod spent;
