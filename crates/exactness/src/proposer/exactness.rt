@@ -1,7 +1,7 @@
 // Callers that know nothing but the contracts: each makes a call twice and promises equal answers.
 ghost use Rattle.std.specs.Prelude.{◌≡◌, ◌≢◌, ◌↔◌, ◌<◌, ◌≤◌};
 ghost use Rattle.std.specs.Prelude.{true, length, IsTrue, IsOk, IfOk, IfErr, OnOk, OnErr};
-ghost use Rattle.std.specs.Prelude.{IfSome, option_copied};
+ghost use Rattle.std.specs.Prelude.{Some, IfSome, option_copied};
 ghost use Rattle.la_set.specs.Counts.{within};
 ghost use Rattle.la_set.specs.Histories.{Histories};
 ghost use Rattle.la_set.specs.Inclusion.{IsSubset};
@@ -116,6 +116,13 @@ fn submitted_is_exact(proposer: &Proposer) -> (u32, u32)
     ensures { result.0 ≡ result.1 }
 {
     (proposer.submitted(), proposer.submitted())
+}
+
+// Taken up again from its parts, whatever its state is, it is the same.
+fn resumed_is_the_same(proposer: &Proposer) -> Result<Option<Proposer>, AllocError>
+    ensures { IfOk result (λ resumed. resumed ≡ Some proposer.now) }
+{
+    Ok(Proposer::resumed(proposer.parts()?))
 }
 
 fn has_counted_is_exact(proposer: &Proposer, from: u8) -> (bool, bool)

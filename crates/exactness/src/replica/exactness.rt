@@ -1,6 +1,6 @@
 // Callers that know nothing but the contracts: each makes a call twice and promises equal answers.
 ghost use Rattle.std.specs.Prelude.{◌≡◌, ◌≢◌, ◌↔◌, ◌≤◌, ◌<◌};
-ghost use Rattle.std.specs.Prelude.{length, IsTrue, IsOk, IfOk, IfErr, OnOk, OnErr, option_copied};
+ghost use Rattle.std.specs.Prelude.{Some, length, IsTrue, IsOk, IfOk, IfErr, OnOk, OnErr, option_copied};
 ghost use Rattle.la_proposer.specs.Majority.{votes_of};
 ghost use Rattle.la_replica.specs.declared.error.ReplicaError.TheVariants.{Memory as MemoryIs};
 ghost use Rattle.la_replica.specs.Whole.{whole_out};
@@ -14,7 +14,8 @@ use la_acceptor::AcceptorError;
 use la_commit::{MAX_COMMITS, laws};
 use la_proposer::{Heard, MAX_CAP, ProposerError, Votes};
 use la_replica::{
-    Body, Change, Mail, Message, Out, Parcel, Progress, Replica, ReplicaError, Said, StoredMessage,
+    Body, Change, Instance, Mail, Message, Out, Parcel, Progress, Replica, ReplicaError, Said,
+    StoredMessage,
 };
 use la_set::{Counts, Op, SetError, UpdateSet};
 use smallvec::SmallVec;
@@ -317,6 +318,21 @@ fn own_is_exact(replica: &Replica) -> (u8, u8)
     ensures few { length replica.now.votes ≤ 8 }
 {
     (replica.own(), replica.own())
+}
+
+// A replica with the votes, the instances and the view of another is the same.
+fn resumed_is_the_same(
+    replica: &Replica,
+    instances: Vec<Instance>,
+    view: UpdateSet,
+) -> Option<Replica>
+    requires instances { instances.items ≡ replica.now.instances }
+    requires view { view ≡ replica.now.view }
+    ensures { result ≡ Some replica.now }
+{
+    // a hint to the prover, which costs no more than a look: the replica may be taken up again
+    let _instances = replica.instances();
+    Replica::resumed(replica.votes(), replica.own(), instances, view)
 }
 
 fn votes_are_exact(replica: &Replica) -> (Votes, Votes)
