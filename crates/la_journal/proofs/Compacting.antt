@@ -1,5 +1,6 @@
 -- A file that is a head and one state.
-use Rattle.std.proofs.Common.{◌≡◌, ◌⊎◌, ⊎_elim, ℕ, zero, suc, ◌-◌, Bool, true, false, List, [], ◌∷◌, ◌++◌, Option, Some, None, refl, sym, ◌∙◌, ap, subst, arith, length, take, append_assoc}
+use Rattle.std.proofs.Common.{◌≡◌, ◌⊎◌, ⊎_elim, ℕ, zero, suc, ◌-◌, Bool, true, false, List, [], ◌∷◌, ◌++◌, Option, Some, None, IfSome, refl, sym, ◌∙◌, ap, subst, arith, length, take, append_assoc}
+use Rattle.std.specs.Global.{Vec}
 use Rattle.std.specs.Prelude.{if◌then◌else◌, not, ◌&&◌}
 use Rattle.std.proofs.lemmas.Option.{none-some, same_Some}
 use Rattle.la_journal.specs.Commits.{same_bytes, with_record, HasNoEnd, AreWhole}
@@ -42,6 +43,15 @@ sound_where : {S : Type 0} (sound : Bool) (led : Option S) (state : S) → (if s
     → sound ≡ true
 sound_where true led state is = refl
 sound_where false led state is = absurd (none-some state is)
+
+-- what is known of a file, where there is one
+pub made_of : {S : Type 0} (named_state : List ℕ → Option S) (state : S) (some : Option (Vec ℕ)) (file : Vec ℕ)
+    (last : List ℕ) {head text : List ℕ} → some ≡ Some file → head ≡ text
+    → IfSome some (λ f. IsCompacted named_state state head f.items last)
+    → IsCompacted named_state state text file.items last
+made_of named_state state some file last {head} is headed known =
+    subst (λ (h : List ℕ). IsCompacted named_state state h file.items last) headed
+    (subst (λ (o : Option (Vec ℕ)). IfSome o (λ f. IsCompacted named_state state head f.items last)) is known)
 
 -- in the place of a file with the same head
 module _ {S : Type 0} (named_state : List ℕ → Option S) (state : S) (before : List ℕ) (p : Parts)

@@ -7,7 +7,7 @@ use Rattle.la_journal.specs.declared.recovery.Unplayed.TheVariants.{Memory, Disk
 use Rattle.la_journal.specs.declared.durable.Refused.{Refused as RefusedOf}
 use Rattle.la_journal.specs.declared.durable.Refused.TheVariants.{Machine, Memory as NoMemory, Disk as NotKept, Closed}
 use Rattle.la_journal.specs.declared.compaction.Uncompacted.{Uncompacted}
-use Rattle.la_journal.specs.declared.compaction.Uncompacted.TheVariants.{Memory as NoRoom, Disk as NotReplaced, Closed as WasClosed}
+use Rattle.la_journal.specs.declared.compaction.Uncompacted.TheVariants.{Memory as NoRoom, Unsaid, Disk as NotReplaced, Closed as WasClosed}
 
 -- the file is a head and groups with nothing behind them, all of it on the disk
 pub record IsSettled {D : Type 0} (seen : D → List ℕ) (may_leave : D → List ℕ → Type 0) (disk : D) : Type 0 where
@@ -52,11 +52,14 @@ IsStop lacks_memory before now faults_before faults many taken stepped NotKept =
 IsStop lacks_memory before now faults_before faults many taken stepped Closed =
     (taken ≡ 0) × IsDurableRefusal lacks_memory before now faults_before faults (stepped 0) Closed
 
--- A journal is not compacted for a cause, and is closed where the disk failed or it was closed before.
-abbrev pub IsNotCompacted : (before now : Bool) → (faults_before faults : ℕ) → Uncompacted → Type 0
-IsNotCompacted before now faults_before faults NoRoom = (before ≡ false) × (now ≡ false)
-IsNotCompacted before now faults_before faults NotReplaced = (before ≡ false) × (now ≡ true) × (faults_before < faults)
-IsNotCompacted before now faults_before faults WasClosed = (before ≡ true) × (now ≡ true)
+-- A journal is not compacted for a cause, and is closed where the disk failed or it was closed before. `writes` says
+-- whether a text of the machine's state is written.
+abbrev pub IsNotCompacted : (before now : Bool) → (faults_before faults : ℕ) → (writes : Bool) → Uncompacted → Type 0
+IsNotCompacted before now faults_before faults writes NoRoom = (before ≡ false) × (now ≡ false)
+IsNotCompacted before now faults_before faults writes Unsaid = (before ≡ false) × (now ≡ false) × (writes ≡ false)
+IsNotCompacted before now faults_before faults writes NotReplaced =
+    (before ≡ false) × (now ≡ true) × (faults_before < faults)
+IsNotCompacted before now faults_before faults writes WasClosed = (before ≡ true) × (now ≡ true)
 
 -- how many bytes two texts begin with alike
 abbrev pub alike : List ℕ → List ℕ → ℕ

@@ -1,5 +1,5 @@
 // A journal that grew, with a state in its place.
-ghost use Rattle.std.specs.Prelude.{◌≡◌, [], ◌+◌, ◌≤◌, length, vec_capacity, false, true, Some, IfOk, IfErr, OnOk, OnErr};
+ghost use Rattle.std.specs.Prelude.{◌≡◌, [], ◌+◌, ◌≤◌, length, vec_capacity, false, true, Some, is_some, IfSome, IfOk, IfErr, OnOk, OnErr};
 ghost use Rattle.la_journal.specs.Disk.{LeavesOnly};
 ghost use Rattle.la_journal.specs.Machine.{state_after, LeadsToSome, SaysState};
 ghost use Rattle.la_journal.specs.Durable.{IsSettled, IsNotCompacted};
@@ -18,6 +18,10 @@ pub enum Uncompacted {
     /// A growth was refused. The journal is as it was.
     #[error("out of memory")]
     Memory,
+
+    /// No text says the machine's state. Nothing has changed.
+    #[error("no text of the state")]
+    Unsaid,
 
     /// The disk failed. Nothing more is taken: the file is the one of before or the new one, and which is
     /// not known, so nothing may be put behind it. It has to be recovered anew: both lead to one state.
@@ -38,6 +42,7 @@ impl<M: Snapshot, D: Disk> Durable<M, D> {
         requires { self.old.closed ≡ false → IsSettled D.seen D.may_leave self.old.disk }
         ensures compacted { OnOk result ((self.new.closed ≡ false)
             × SaysState M.named_state (M.state self.old.machine) (D.seen self.new.disk)) }
+        ensures written { OnOk result (M.writes self.old.machine ≡ true) }
         ensures machine { self.new.machine ≡ self.old.machine }
         ensures leads { self.new.closed ≡ false → (start : M.State)
             → state_after M.head M.named_state M.named M.step start (D.seen self.old.disk) ≡ Some (M.state self.old.machine)
@@ -52,15 +57,18 @@ impl<M: Snapshot, D: Disk> Durable<M, D> {
         ensures open { self.new.closed ≡ false → IsSettled D.seen D.may_leave self.new.disk }
         ensures same { OnErr result (self.new.closed ≡ false → D.seen self.new.disk ≡ D.seen self.old.disk) }
         ensures cause { IfErr result (IsNotCompacted self.old.closed self.new.closed
-            (D.faults self.old.disk) (D.faults self.new.disk)) }
+            (D.faults self.old.disk) (D.faults self.new.disk) (M.writes self.old.machine)) }
         ensures still { self.old.closed ≡ true → self.new ≡ self.old }
     {
         if self.closed {
             return Err(Uncompacted::Closed);
         }
         let mut last = [b'0'; DIGITS];
-        let Ok(file) = compacted(alloc, &self.head, &self.machine, &mut last) else {
+        let Ok(made) = compacted(alloc, &self.head, &self.machine, &mut last) else {
             return Err(Uncompacted::Memory);
+        };
+        let Some(file) = made else {
+            return Err(Uncompacted::Unsaid);
         };
         match self.disk.replace(&file) {
             Ok(()) => {
@@ -75,21 +83,25 @@ impl<M: Snapshot, D: Disk> Durable<M, D> {
     }
 }
 
-/// A file with this head and a machine's state. The digest that it ends in is put into `last`.
+/// A file with this head and a machine's state, where a text says it. The digest that it ends in is put into `last`.
 fn compacted<M: Snapshot>(
     alloc: Global,
     head: &[u8],
     machine: &M,
     last: &mut [u8; DIGITS],
-) -> Result<Vec<u8>, AllocError>
-    ensures { IfOk result (λ file. IsCompacted M.named_state (M.state machine.now) head.now file.items last.new) }
+) -> Result<Option<Vec<u8>>, AllocError>
+    ensures variant { IfOk result (λ some. is_some some ≡ M.writes machine.now) }
+    ensures file { IfOk result (λ some. IfSome some (λ file.
+        IsCompacted M.named_state (M.state machine.now) head.now file.items last.new)) }
 {
+    let Some(mut group) = snapshot(alloc, machine)? else {
+        return Ok(None);
+    };
     let mut file = new_file(alloc, head)?;
-    let mut group = snapshot(alloc, machine)?;
     *last = put_record(&mut group, &digest(&[], head));
     file.extend_from_slice(&group)?;
     file.extend_from_slice(&seals(alloc, last)?)?;
-    Ok(file)
+    Ok(Some(file))
 }
 
 /// Two records of no lines, behind what ends in this digest. The one that they end in is put into `last`.
@@ -112,16 +124,20 @@ fn seal(alloc: Global, last: &mut [u8; DIGITS]) -> Result<Vec<u8>, AllocError>
     Ok(seal)
 }
 
-/// The line of a machine's state, with its end, and room for a record behind it.
-fn snapshot<M: Snapshot>(alloc: Global, machine: &M) -> Result<Vec<u8>, AllocError>
-    ensures line { IfOk result (λ bytes. IsSnapshot M.named_state (M.state machine.now) bytes.items) }
-    ensures room { IfOk result (λ bytes. length bytes.items + 57 ≤ vec_capacity bytes) }
+/// The line of a machine's state, where a text says it, with its end, and room for a record behind it.
+fn snapshot<M: Snapshot>(alloc: Global, machine: &M) -> Result<Option<Vec<u8>>, AllocError>
+    ensures variant { IfOk result (λ some. is_some some ≡ M.writes machine.now) }
+    ensures line { IfOk result (λ some. IfSome some (λ bytes.
+        IsSnapshot M.named_state (M.state machine.now) bytes.items)) }
+    ensures room { IfOk result (λ some. IfSome some (λ bytes. length bytes.items + 57 ≤ vec_capacity bytes)) }
 {
-    let text = machine.write_state(alloc)?;
+    let Some(text) = machine.write_state(alloc)? else {
+        return Ok(None);
+    };
     let mut line = Vec::new(alloc);
     line.push(b'=')?;
     line.extend_from_slice(&text)?;
     line.push(b'\n')?;
     line.reserve(ROOM)?;
-    Ok(line)
+    Ok(Some(line))
 }

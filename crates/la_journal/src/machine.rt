@@ -1,5 +1,5 @@
 // A machine that changes by calls alone, each of which is a line of text.
-ghost use Rattle.std.specs.Prelude.{◌≡◌, ◌⊎◌, List, ℕ, Bool, true, Option, Some, None, IfOk, IfErr, OnOk, OnErr};
+ghost use Rattle.std.specs.Prelude.{◌≡◌, ◌⊎◌, List, ℕ, Bool, true, Option, Some, None, is_some, IfSome, IfOk, IfErr, OnOk, OnErr};
 ghost use Rattle.la_journal.specs.Lines.{IsClean};
 ghost use Rattle.la_journal.specs.Journal.{IsCallLine};
 ghost use Rattle.la_journal.specs.Machine.{IsNamed, IsStateTaken};
@@ -93,10 +93,17 @@ pub trait Machine: Drop {
     ghost clean_head: { (s : State) → IsClean (head s) };
 }
 
-/// A machine whose journals can be compacted: it writes its state as a text.
+/// A machine whose journals can be compacted: it writes its state as a text, where it can.
 pub trait Snapshot: Machine {
-    /// A text of the state, without a line's end.
-    fn write_state(&self, alloc: Global) -> Result<Vec<u8>, AllocError>
-        ensures read_back { IfOk result (λ text. Self.named_state text.items ≡ Some (Self.state self.now)) }
-        ensures clean { IfOk result (λ text. IsClean text.items) };
+    /// Whether a text of the state is written at all.
+    ghost writes: { Self → Bool };
+
+    /// A text of the state, without a line's end; `None` where none is written.
+    fn write_state(&self, alloc: Global) -> Result<Option<Vec<u8>>, AllocError>
+        ensures variant { IfOk result (λ text. is_some text ≡ writes self.now) }
+        ensures read_back { IfOk result (λ text. IfSome text (λ t. Self.named_state t.items ≡ Some (Self.state self.now))) }
+        ensures clean { IfOk result (λ text. IfSome text (λ t. IsClean t.items)) };
+
+    /// Whether one is written rests on the state alone.
+    ghost by_state: { (a b : Self) → Self.Machine.state a ≡ Self.Machine.state b → writes a ≡ writes b };
 }

@@ -3,6 +3,7 @@ ghost use Rattle.std.specs.Prelude.{◌≡◌, false};
 ghost use Rattle.la_journal.specs.Durable.{IsSettled};
 
 use crate::given::{Start, disk_of, has, holds, started, tally_over};
+use crate::shy::shy_over;
 use crate::torn::{are_met, is_never_left};
 use crate::{Move, Tally, Total};
 use la_journal::{Disk, Durable, MemoryDisk, Refused, Uncompacted};
@@ -115,4 +116,24 @@ fn no_room_for_a_state(rt: HostRuntime) {
         matches!(node.compact(alloc), Err(Uncompacted::Disk)),
     );
     holds(&rt, "the file", has(alloc, &node.disk, &[b"u\n"]));
+}
+
+// A number that no text says stays in its journal, which takes more; the next one is said.
+#[test]
+fn no_text_of_a_state(rt: HostRuntime) {
+    let alloc = rt.alloc();
+    let mut node = shy_over(&rt, alloc, disk_of(&rt, alloc, &[b"u\n", b"u\n"], b""));
+    holds(
+        &rt,
+        "no text",
+        matches!(node.compact(alloc), Err(Uncompacted::Unsaid)),
+    );
+    holds(&rt, "the same", has(alloc, &node.disk, &[b"u\n", b"u\n"]));
+    holds(
+        &rt,
+        "a move",
+        matches!(node.handle(alloc, &Move::Down), Ok(Total::Moved(1))),
+    );
+    holds(&rt, "a text", node.compact(alloc).is_ok());
+    holds(&rt, "a state", has(alloc, &node.disk, &[b"=u\n", b"", b""]));
 }

@@ -19,6 +19,8 @@ mod lives;
 mod made;
 #[cfg(test)]
 mod recorded;
+#[cfg(test)]
+mod shy;
 mod tally;
 #[cfg(test)]
 mod told;

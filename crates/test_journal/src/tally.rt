@@ -153,12 +153,18 @@ impl Machine for Tally {
 }
 
 impl Snapshot for Tally {
-    fn write_state(&self, alloc: Global) -> Result<Vec<u8>, AllocError> {
+    ghost use Rattle.std.specs.Prelude.{true, refl};
+
+    ghost writes = { λ _. true };
+
+    ghost by_state = { λ a b same. refl };
+
+    fn write_state(&self, alloc: Global) -> Result<Option<Vec<u8>>, AllocError> {
         let mut text = Vec::new(alloc);
         for _up in 0..self.total {
             text.push(b'u')?;
         }
-        Ok(text)
+        Ok(Some(text))
     }
 }
 

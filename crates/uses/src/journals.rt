@@ -114,10 +114,16 @@ impl Machine for Lease {
 }
 
 impl Snapshot for Lease {
-    fn write_state(&self, alloc: Global) -> Result<Vec<u8>, AllocError> {
+    ghost use Rattle.std.specs.Prelude.{refl};
+
+    ghost writes = { λ _. true };
+
+    ghost by_state = { λ a b same. refl };
+
+    fn write_state(&self, alloc: Global) -> Result<Option<Vec<u8>>, AllocError> {
         let mut text = Vec::new(alloc);
         text.push(if self.taken { b't' } else { b'f' })?;
-        Ok(text)
+        Ok(Some(text))
     }
 }
 

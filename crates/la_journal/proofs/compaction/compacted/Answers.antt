@@ -1,14 +1,15 @@
-use Rattle.std.proofs.Common.{◌≡◌, [], ◌∷◌, ◌++◌, ℕ, List, ◌∙◌, ap}
+use Rattle.std.proofs.Common.{◌≡◌, [], ◌∷◌, ◌++◌, ℕ, List, Option, IfSome, ◌∙◌, ap, subst}
+use Rattle.std.specs.Global.{Vec}
 use Rattle.la_journal.specs.Commits.{with_record}
 use Rattle.la_journal.specs.Records.{digest, link, head_line, record_line}
-use Rattle.la_journal.specs.Snapshots.{first_link, seals, seal_link}
+use Rattle.la_journal.specs.Snapshots.{IsSnapshot, first_link, seals, seal_link}
 use Rattle.la_journal.proofs.Compacting.{in_place}
 use Rattle.la_journal.proofs.compaction.compacted.Goals as goal
 
-pub returns : goal.returns
-returns g c =
+pub returns-clause-file : goal.returns-clause-file
+returns-clause-file g c =
     let head = c.args.head.now in
-    let group = c.in_ok-group.group.items in
+    let group = c.in-Some.group.items in
     let new : c.in_ok-file.file.items ≡ head_line head ++ 10 ∷ [] = c.in_ok-file.ensures in
     let first : c.digest.result ≡ digest head = c.digest.ensures in
     let written : c.put_record.new.group.items ≡ with_record record_line (digest head) group =
@@ -22,7 +23,9 @@ returns g c =
     c.in_ok-extend_from_slice.ensures.items ∙ (λ i. new i ++ (c.deref.ensures.value ∙ written) i) in
     record {
       group = group;
-      snapshot = c.in_ok-group.ensures.line;
+      snapshot =
+          subst (λ (o : Option (Vec ℕ)). IfSome o (λ b. IsSnapshot g.M.Machine.named_state
+          (g.M.Machine.state c.args.machine.now) b.items)) c.in-Some.is c.in_ok-group.ensures.line;
       is =
           c.in_ok-extend_from_slice-2.ensures.items
           ∙ ap (λ (l : List ℕ). l ++ c.deref-2.result.now) front
