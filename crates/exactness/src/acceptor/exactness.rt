@@ -19,6 +19,13 @@ fn new_is_exact(alloc: Global) -> (Acceptor, Acceptor)
     (Acceptor::new(alloc), Acceptor::new(alloc))
 }
 
+// Taken up again from what it has accepted, an acceptor is the same.
+fn resumed_is_the_same(acceptor: &Acceptor) -> Result<Acceptor, AllocError>
+    ensures { IfOk result (λ resumed. resumed ≡ acceptor.now) }
+{
+    Ok(Acceptor::resumed(acceptor.accepted().copy()?))
+}
+
 fn accepted_is_exact(acceptor: &Acceptor) -> (&UpdateSet, &UpdateSet)
     ensures { result.0.now ≡ result.1.now }
 {

@@ -12,7 +12,8 @@ ghost use Rattle.la_proposer.specs.Changes.{after_commit, IsPreparedFrom};
 
 use la_acceptor::Reply;
 use la_proposer::{
-    BadConfig, Ballot, Change, Heard, MAX_CAP, Proposer, ProposerError, Status, Verdict, Votes,
+    BadConfig, Ballot, Change, Counted, Heard, MAX_CAP, Proposer, ProposerError, ProposerParts,
+    Status, Verdict, Votes,
 };
 use la_set::{Counts, Op, UpdateSet};
 use std::alloc::{AllocError, Global};
@@ -118,11 +119,72 @@ fn submitted_is_exact(proposer: &Proposer) -> (u32, u32)
     (proposer.submitted(), proposer.submitted())
 }
 
-// Taken up again from its parts, whatever its state is, it is the same.
+fn votes_are_the_same_alike(votes: &Votes, other: &Votes) -> (bool, bool)
+    ensures { result.0 ≡ result.1 }
+{
+    (votes.same(other), votes.same(other))
+}
+
+fn own_is_exact(proposer: &Proposer) -> (u8, u8)
+    ensures { result.0 ≡ result.1 }
+{
+    (proposer.own(), proposer.own())
+}
+
+fn proposer_votes_are_exact(proposer: &Proposer) -> (Votes, Votes)
+    ensures { votes_of result.0 ≡ votes_of result.1 }
+{
+    (proposer.votes(), proposer.votes())
+}
+
+fn last_is_exact(proposer: &Proposer) -> bool
+    ensures { IsTrue result }
+{
+    proposer.last().same(proposer.last())
+}
+
+fn is_asking_is_exact(proposer: &Proposer) -> (bool, bool)
+    ensures { result.0 ≡ result.1 }
+{
+    (proposer.is_asking(), proposer.is_asking())
+}
+
+fn tally_is_exact(proposer: &Proposer) -> (&[Counted], &[Counted])
+    ensures { result.0.now ≡ result.1.now }
+{
+    (proposer.tally(), proposer.tally())
+}
+
+fn submissions_are_exact(proposer: &Proposer) -> bool
+    ensures { IsTrue result }
+{
+    proposer.submissions().same(proposer.submissions())
+}
+
+fn all_reported_is_exact(proposer: &Proposer) -> ([Counts; 8], [Counts; 8])
+    ensures { result.0 ≡ result.1 }
+{
+    (proposer.all_reported(), proposer.all_reported())
+}
+
+// ## A proposer that is taken up again
+
+// Whatever its state is, it is the same.
 fn resumed_is_the_same(proposer: &Proposer) -> Result<Option<Proposer>, AllocError>
     ensures { IfOk result (λ resumed. resumed ≡ Some proposer.now) }
 {
     Ok(Proposer::resumed(proposer.parts()?))
+}
+
+// Parts answer alike, those of no proposer too.
+fn resumed_is_exact(
+    one: ProposerParts,
+    other: ProposerParts,
+) -> (Option<Proposer>, Option<Proposer>)
+    requires { one ≡ other }
+    ensures { result.0 ≡ result.1 }
+{
+    (Proposer::resumed(one), Proposer::resumed(other))
 }
 
 fn has_counted_is_exact(proposer: &Proposer, from: u8) -> (bool, bool)

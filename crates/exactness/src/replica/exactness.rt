@@ -320,6 +320,29 @@ fn own_is_exact(replica: &Replica) -> (u8, u8)
     (replica.own(), replica.own())
 }
 
+fn instances_are_exact(replica: &Replica) -> (&[Instance], &[Instance])
+    ensures { result.0.now ≡ result.1.now }
+{
+    (replica.instances(), replica.instances())
+}
+
+// Parts answer alike, those of no replica too.
+fn resumed_is_exact(
+    votes: Votes,
+    own: u8,
+    one: (Vec<Instance>, UpdateSet),
+    other: (Vec<Instance>, UpdateSet),
+) -> (Option<Replica>, Option<Replica>)
+    requires instances { one.0.items ≡ other.0.items }
+    requires view { one.1 ≡ other.1 }
+    ensures { result.0 ≡ result.1 }
+{
+    (
+        Replica::resumed(votes, own, one.0, one.1),
+        Replica::resumed(votes, own, other.0, other.1),
+    )
+}
+
 // A replica with the votes, the instances and the view of another is the same.
 fn resumed_is_the_same(
     replica: &Replica,

@@ -10,7 +10,7 @@ use la_commit::Outcome;
 use la_node::{Config, Done, Node, Received, WorldError, outcome_by};
 use la_object::{Answer, Query, Replicated, Shelf, ShelfError, State};
 use la_proposer::Votes;
-use la_replica::{Mail, Message, Out, Parcel, Progress, ReplicaError};
+use la_replica::{Mail, Message, Out, Parcel, Progress, Replica, ReplicaError};
 use la_set::{Op, Tags, UpdateSet};
 use std::alloc::{AllocError, Global};
 
@@ -28,6 +28,26 @@ fn new_nodes_are_one<B: Replicated>(
     (
         Node::new(alloc, config, own, shelf),
         Node::new(alloc, config, own, same),
+    )
+}
+
+fn replica_is_exact<B: Replicated>(node: &Node<B>) -> (&Replica, &Replica)
+    ensures { result.0.now ≡ result.1.now }
+{
+    (node.replica(), node.replica())
+}
+
+fn resumed_nodes_are_one<B: Replicated>(
+    replicas: (Replica, Replica),
+    shelves: (Shelf<B>, Shelf<B>),
+) -> (Option<Node<B>>, Option<Node<B>>)
+    requires replicas { replicas.0 ≡ replicas.1 }
+    requires shelves { shelves.0 ≡ shelves.1 }
+    ensures { result.0 ≡ result.1 }
+{
+    (
+        Node::resumed(replicas.0, shelves.0),
+        Node::resumed(replicas.1, shelves.1),
     )
 }
 
