@@ -58,6 +58,7 @@ impl<M: Snapshot, D: Disk> Durable<M, D> {
         ensures same { OnErr result (self.new.closed ≡ false → D.seen self.new.disk ≡ D.seen self.old.disk) }
         ensures cause { IfErr result (IsNotCompacted self.old.closed self.new.closed
             (D.faults self.old.disk) (D.faults self.new.disk) (M.writes self.old.machine)) }
+        ensures later { D.faults self.old.disk ≤ D.faults self.new.disk }
         ensures still { self.old.closed ≡ true → self.new ≡ self.old }
     {
         if self.closed {
