@@ -1,5 +1,6 @@
 -- A whole message is carried by one message alone, where it is told over what the same replica knows.
-use Rattle.std.proofs.Common.{◌≡◌, ℕ, List, [], ◌∷◌, slice_get, Option, Some, None, IsSomeAnd, refl, sym, ap, ap₂, subst, subst₂, ◌∙◌}
+use Rattle.std.proofs.Common.{◌≡◌, ℕ, List, [], ◌∷◌, slice_get, Option, Some, None, IsSomeAnd, refl, sym, ap, ap₂}
+use Rattle.std.proofs.Common.{subst, subst₂, ◌∙◌}
 use Rattle.std.proofs.lemmas.List.Elements.{All-weaker, All-head, All-tail}
 use Rattle.std.proofs.lemmas.Option.{same_Some}
 use Rattle.std.specs.Prelude.{Result, Ok, Err, IfOk, OnOk}

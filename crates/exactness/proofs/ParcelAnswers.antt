@@ -1,18 +1,21 @@
 -- The contracts of la_replica leave one refusal of a parcel, but for want of memory.
-use Rattle.std.proofs.Common.{◌≡◌, ◌≢◌, ◌⊎◌, ℕ, ◌<◌, length, List, Option, Some, None, IsSomeAnd, slice_get, Result, Ok, Err, IfOk, IfErr, refl, sym, ◌∙◌, ap, subst, arith, inl, inr}
+use Rattle.std.proofs.Common.{◌≡◌, ◌≢◌, ◌⊎◌, ℕ, ◌<◌, length, List, Option, Some, None, IsSomeAnd, slice_get, Result}
+use Rattle.std.proofs.Common.{Ok, Err, IfOk, IfErr, refl, sym, ◌∙◌, ap, subst, arith, inl, inr}
 use Rattle.std.proofs.lemmas.Option.{slice_get_past}
 use Rattle.std.proofs.lemmas.Bool.{cases_lt}
 use Rattle.la_set.specs.Histories.{Histories}
 use Rattle.la_set.specs.declared.error.SetError.{SetError}
 use Rattle.la_set.specs.declared.error.SetError.TheVariants as set_error
 use Rattle.la_replica.specs.declared.error.ReplicaError.{ReplicaError}
-use Rattle.la_replica.specs.declared.error.ReplicaError.TheVariants.{NoSuchReplica, NoSuchInstance, Full, NoBase, Gap, Clash, BallotsSpent, Memory}
+use Rattle.la_replica.specs.declared.error.ReplicaError.TheVariants.{NoSuchReplica, NoSuchInstance, Full, NoBase, Gap}
+use Rattle.la_replica.specs.declared.error.ReplicaError.TheVariants.{Clash, BallotsSpent, Memory}
 use Rattle.la_replica.specs.declared.instance.Instance.{Instance}
 use Rattle.la_replica.specs.declared.message.Message as code
 use Rattle.la_replica.specs.declared.parcel.Parcel.{Parcel}
 use Rattle.la_replica.specs.declared.parcel.Content.{Content}
 use Rattle.la_replica.specs.declared.parcel.Content.TheVariants as content
-use Rattle.la_replica.specs.Parcels.{Unwraps, IsShut, view_of, unwrapped_in, UnwrapsIn, IsShutIn, IsUnwrapRefusal, IsParcelRefusal}
+use Rattle.la_replica.specs.Parcels.{Unwraps, IsShut, view_of, unwrapped_in, UnwrapsIn, IsShutIn, IsUnwrapRefusal}
+use Rattle.la_replica.specs.Parcels.{IsParcelRefusal}
 use Rattle.la_replica.specs.Received.{received_in}
 use Rattle.la_replica.specs.Refusals.{of_set, IsFor, IsReceiptRefusal, TakesMessage}
 use Rattle.la_replica.specs.ReplicaState.{ReplicaState}

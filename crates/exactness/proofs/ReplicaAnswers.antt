@@ -1,5 +1,6 @@
 -- The contracts of la_replica leave one refusal of a message, but for want of memory.
-use Rattle.std.proofs.Common.{◌≡◌, ◌≢◌, ◌⊎◌, ℕ, ◌<◌, ◌≤◌, true, length, List, Option, Some, None, IsSomeAnd, IfSome, slice_get, Result, Ok, Err, IfOk, IfErr, refl, sym, ◌∙◌, ap, subst, arith, inl, inr}
+use Rattle.std.proofs.Common.{◌≡◌, ◌≢◌, ◌⊎◌, ℕ, ◌<◌, ◌≤◌, true, length, List, Option, Some, None, IsSomeAnd, IfSome}
+use Rattle.std.proofs.Common.{slice_get, Result, Ok, Err, IfOk, IfErr, refl, sym, ◌∙◌, ap, subst, arith, inl, inr}
 use Rattle.std.proofs.lemmas.Option.{slice_get_past}
 use Rattle.la_set.specs.Histories.{Histories}
 use Rattle.la_set.specs.declared.error.SetError.{SetError}
@@ -16,13 +17,16 @@ use Rattle.la_proposer.specs.ProposerState.{ProposerState, counts, with_reply}
 use Rattle.la_proposer.specs.Clashes.{Fits}
 use Rattle.la_proposer.specs.Refusals.{ReplySpends}
 use Rattle.la_replica.specs.declared.error.ReplicaError.{ReplicaError}
-use Rattle.la_replica.specs.declared.error.ReplicaError.TheVariants.{NoSuchReplica, NoSuchInstance, Full, NoBase, Gap, Clash, BallotsSpent, Memory}
+use Rattle.la_replica.specs.declared.error.ReplicaError.TheVariants.{NoSuchReplica, NoSuchInstance, Full, NoBase, Gap}
+use Rattle.la_replica.specs.declared.error.ReplicaError.TheVariants.{Clash, BallotsSpent, Memory}
 use Rattle.la_replica.specs.declared.instance.Instance.{Instance}
 use Rattle.la_replica.specs.declared.message.Message as code
 use Rattle.la_replica.specs.Whole.{Message, Body, Offer, Yes, No, Tell}
 use Rattle.la_replica.specs.ReplicaState.{ReplicaState}
 use Rattle.la_replica.specs.Received.{Told, told_at, StandsAt, IsUnbuilt, StandsIn, received_in}
-use Rattle.la_replica.specs.Refusals.{of_set, of_acceptor, of_proposer, IsReceiptRefusal, IsAnswerRefusal, IsHearingRefusal, IsTellRefusal, IsBodyRefusal, IsFor, IsReceiveRefusal, FitsBody, IsReceivable, SparesBody, ReceivingSpares, TakesMessage}
+use Rattle.la_replica.specs.Refusals.{of_set, of_acceptor, of_proposer, IsReceiptRefusal, IsAnswerRefusal}
+use Rattle.la_replica.specs.Refusals.{IsHearingRefusal, IsTellRefusal, IsBodyRefusal, IsFor, IsReceiveRefusal}
+use Rattle.la_replica.specs.Refusals.{FitsBody, IsReceivable, SparesBody, ReceivingSpares, TakesMessage}
 use Rattle.exactness.proofs.OfferAnswers.{one_offer_refusal, fitting_offer}
 use Rattle.exactness.proofs.ProposerAnswers.{IsCountingRefusal, one_counting_refusal, fitting_counting}
 

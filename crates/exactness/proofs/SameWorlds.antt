@@ -1,6 +1,7 @@
 -- The contracts of a world leave one answer: worlds of one group that stand for the same events are one but for what their
 -- shelves have absorbed, and so are the answers of a call on each of two.
-use Rattle.std.proofs.Common.{◌≡◌, ◌≢◌, ℕ, Bool, true, false, cond, List, [], ◌∷◌, length, Option, Some, None, refl, sym, ◌∙◌, ap, ap₂, subst, subst₂, arith}
+use Rattle.std.proofs.Common.{◌≡◌, ◌≢◌, ℕ, Bool, true, false, cond, List, [], ◌∷◌, length, Option, Some, None, refl}
+use Rattle.std.proofs.Common.{sym, ◌∙◌, ap, ap₂, subst, subst₂, arith}
 use Rattle.std.specs.Prelude.{◌<◌, ◌≤◌, nat_lt, option_map, Result, Ok, Err, IfOk, IfErr, OnErr, IsSomeAnd}
 use Rattle.std.proofs.lemmas.Bool.{le-ltb}
 use Rattle.std.proofs.lemmas.Option.{same_Some}
@@ -12,7 +13,9 @@ use Rattle.la_object.specs.Shelves.{ShelfState, kind_at, tags_at, updates_at}
 use Rattle.la_replica.specs.declared.message.Message as code
 use Rattle.la_node.specs.declared.config.Config.{Config}
 use Rattle.la_node.specs.declared.error.WorldError.{WorldError}
-use Rattle.la_node.specs.declared.error.WorldError.TheVariants.{BadConfig, NoSuchReplica, Full, NoSuchMessage, NoSuchCommit, AlreadyProposed, NoSuchObject, TooManyTags, Memory}
+use Rattle.la_node.specs.declared.error.WorldError.TheVariants.{BadConfig, NoSuchReplica, Full, NoSuchMessage}
+use Rattle.la_node.specs.declared.error.WorldError.TheVariants.{NoSuchCommit, AlreadyProposed, NoSuchObject}
+use Rattle.la_node.specs.declared.error.WorldError.TheVariants.{TooManyTags, Memory}
 use Rattle.la_world.specs.declared.error.Refusal.{Refusal}
 use Rattle.la_world.specs.declared.error.Refusal.TheVariants as named
 use Rattle.la_world.specs.declared.report.Line.{Line}
@@ -28,7 +31,8 @@ use Rattle.la_world.specs.Report.{refused, line_of, Run, and_event}
 use Rattle.la_world.specs.ReplicaStates.{replica_states}
 use Rattle.la_world.specs.StandsFor.{World, kinds_of, group_in, StandsFor}
 use Rattle.la_world.specs.Told.{told_messages}
-use Rattle.la_world.specs.Calls.{IsMakingRefusal, IsEventRefusal, PlaysEvent, RunGoesOn, Keeps, may_absorb, IsSameUnless, world_tags, IsWorldTagsRefusal}
+use Rattle.la_world.specs.Calls.{IsMakingRefusal, IsEventRefusal, PlaysEvent, RunGoesOn, Keeps, may_absorb}
+use Rattle.la_world.specs.Calls.{IsSameUnless, world_tags, IsWorldTagsRefusal}
 use Rattle.exactness.specs.Alike.{AreAlikeWorlds, AreOfOneGroup}
 
 -- ## Worlds

@@ -1,5 +1,6 @@
 -- What follows from the laws of la_world.
-use Rattle.std.proofs.Common.{◌≡◌, ℕ, ◌+◌, ◌<◌, ◌≤◌, List, [], ◌∷◌, ◌++◌, length, drop, slice_get, Some, Contains, sym, ◌∙◌, ap, subst, arith}
+use Rattle.std.proofs.Common.{◌≡◌, ℕ, ◌+◌, ◌<◌, ◌≤◌, List, [], ◌∷◌, ◌++◌, length, drop, slice_get, Some, Contains}
+use Rattle.std.proofs.Common.{sym, ◌∙◌, ap, subst, arith}
 use Rattle.std.specs.Prelude.{reverse, Result, Ok, Err, IfOk}
 use Rattle.std.proofs.lemmas.Option.{same_Some}
 use Rattle.la_set.specs.Histories.{history}
@@ -26,7 +27,9 @@ use Rattle.la_world.specs.Playing.{trace}
 use Rattle.la_world.specs.Report.{report, refused, runs, report_lines, trace_of}
 use Rattle.la_world.specs.Reading.{IsLearntAt, IsAnsweredLine, view_at_place}
 use Rattle.la_world.specs.Promises.{PlacesCountAccepted}
-use Rattle.la_world.specs.Laws.{LearntAreComparable, AcknowledgementsHavePlaces, LearntHoldWhatWasTaken, NumbersNameBallots, BallotsGrow, LearntGrow, SecondProposalsAreRefused, ProposalsAreTestedInOrder, LimitsAre, ReportedAnswersAreValues}
+use Rattle.la_world.specs.Laws.{LearntAreComparable, AcknowledgementsHavePlaces, LearntHoldWhatWasTaken}
+use Rattle.la_world.specs.Laws.{NumbersNameBallots, BallotsGrow, LearntGrow, SecondProposalsAreRefused}
+use Rattle.la_world.specs.Laws.{ProposalsAreTestedInOrder, LimitsAre, ReportedAnswersAreValues}
 
 -- ## Of a run
 

@@ -1,5 +1,6 @@
 -- Shelves with objects of one kind under a number, and shelves without objects.
-use Rattle.std.proofs.Common.{◌≡◌, ℕ, zero, suc, ◌<◌, List, [], ◌∷◌, length, Contains, slice_get, refl, sym, ◌∙◌, ap, arith}
+use Rattle.std.proofs.Common.{◌≡◌, ℕ, zero, suc, ◌<◌, List, [], ◌∷◌, length, Contains, slice_get, refl, sym, ◌∙◌, ap}
+use Rattle.std.proofs.Common.{arith}
 use Rattle.std.specs.Prelude.{Result, Ok, Err, IfOk, OnOk, unwrap_or, replicate}
 use Rattle.la_set.specs.Histories.{empty}
 use Rattle.la_object.specs.Shelves.{ShelfState, kind_at}
