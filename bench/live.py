@@ -33,10 +33,10 @@ class Node:
         """The bytes in its folder."""
         return sum(file.stat().st_size for file in self.folder.iterdir())
 
-    def start(self) -> tuple[float, float]:
+    def start(self, *more: str) -> tuple[float, float]:
         """The seconds and the mebibytes of a start on its journal, over an input that is at its end."""
         began = time.perf_counter()
-        process = subprocess.Popen(self.words, stdin=subprocess.DEVNULL)
+        process = subprocess.Popen([*self.words, *more], stdin=subprocess.DEVNULL)
         _, status, usage = os.wait4(process.pid, 0)
         process.returncode = os.waitstatus_to_exitcode(status)
         if process.returncode:

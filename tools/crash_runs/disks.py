@@ -55,8 +55,11 @@ def groups_of(journal: bytes) -> tuple[int, int]:
 
 
 def flipped(draw: random.Random, journal: bytes) -> bytes:
-    """A journal one bit of which has flipped, in front of its last group."""
-    bit, found = draw.randrange(8 * groups_of(journal)[0]), bytearray(journal)
+    """A journal one bit of which has flipped, in front of its last group, and of the records of no lines before that."""
+    before = journal[: groups_of(journal)[0]]
+    while (end := groups_of(before)[0]) < len(before) and before[end:].startswith(b"~"):
+        before = before[:end]
+    bit, found = draw.randrange(8 * len(before)), bytearray(journal)
     found[bit // 8] ^= 1 << bit % 8
     return bytes(found)
 

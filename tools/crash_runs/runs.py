@@ -35,6 +35,7 @@ class Run:
     def __init__(self, program: str, seed: int, nodes: int | None, folder: Path, preload: dict[str, str]) -> None:
         self.draw = random.Random(seed)
         self.group = drawn_group(self.draw, nodes)
+        self.compact = self.draw.choice((0, 1))
         self.checker, self.log = Checker(self.group), []
         self.pool: list[str] = []
         self.figures: Counter[str] = Counter()
@@ -50,7 +51,8 @@ class Run:
         it = self.group
         words = ["node", "--replicas", str(it.replicas), "--own", str(own), "--commits", str(it.commits)]
         votes = ["--votes", *map(str, it.votes)] if set(it.votes) != {1} else []
-        return [*words, "--cap", str(it.cap), *votes]
+        # A journal is compacted from 1 KiB on, or never.
+        return [*words, "--cap", str(it.cap), "--compact", str(self.compact), *votes]
 
     def note(self, entry: Entry) -> None:
         self.log.append(entry)
