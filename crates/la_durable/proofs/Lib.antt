@@ -4,3 +4,4 @@ pub mod Acting
 pub mod Naming
 pub mod Lines
 pub mod Restarts
+pub mod StateLines

@@ -5,3 +5,4 @@ pub mod Errors
 pub mod Inputs
 pub mod Restarts
 pub mod Still
+pub mod NodeStates

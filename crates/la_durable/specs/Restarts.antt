@@ -1,5 +1,5 @@
 -- A node that was started again after a crash.
-use Rattle.std.specs.Prelude.{◌≡◌, ℕ, List, [], ◌∷◌, Contains, Option, Some, None}
+use Rattle.std.specs.Prelude.{◌≡◌, ℕ, List, [], ◌∷◌, Contains, Option, Some}
 use Rattle.la_journal.specs.Machine.{LeadsToSome}
 use Rattle.la_journal.specs.Machine as journal
 use Rattle.la_replica.specs.ReplicaState.{ReplicaState}
@@ -9,11 +9,12 @@ use Rattle.la_wire.specs.Calls.{WireCall}
 use Rattle.la_wire.specs.CallLines.{named_call}
 use Rattle.la_durable.specs.CallLines.{CallLine, call_line}
 use Rattle.la_durable.specs.Heads.{node_head}
+use Rattle.la_durable.specs.NodeStates.{named_node}
 use Rattle.la_durable.specs.Nodes.{node_call, step}
 
 -- where a journal leads a node that was this at first: nowhere, where its head is another's
 abbrev pub leads_from : ReplicaState → List ℕ → Option ReplicaState
-leads_from start = journal.state_after node_head (λ _. None) call_line step start
+leads_from start = journal.state_after node_head named_node call_line step start
 
 -- a line of these says this call to a replica
 pub record IsCallOf (handed : List CallLine) (replica : ReplicaState) (call : NodeCall) : Type 0 where

@@ -85,7 +85,7 @@ fn may_stand(line: &[u8]) -> bool
 }
 
 // Whether it has no byte 0 and no line's end.
-fn is_clean(line: &[u8]) -> bool
+pub(crate) fn is_clean(line: &[u8]) -> bool
     ensures { result ≡ list_all is_clean_byte line.now }
 {
     line.iter().all(|b| *b != 0 && *b != b'\n')

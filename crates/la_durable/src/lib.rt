@@ -10,6 +10,7 @@ mod head;
 mod input;
 pub mod laws;
 mod machine;
+mod state;
 
 pub use error::NodeError;
 pub use input::Input;

@@ -11,8 +11,9 @@ ghost use Rattle.la_durable.specs.Errors.{IsForMemory, IsActRefusal};
 ghost use Rattle.la_durable.specs.Errors.{RefusesSubmission, RefusesProposal, RefusesLetter};
 
 use crate::head::head_of;
+use crate::state::{node_in, text_of};
 use crate::{Input, NodeError};
-use la_journal::Machine;
+use la_journal::{Machine, Snapshot};
 use la_node::{Config, Done, Node, Received, WorldError};
 use la_object::{Counter, Shelf};
 use la_replica::Out;
@@ -206,6 +207,7 @@ impl Machine for NodeMachine {
     ghost use Rattle.std.specs.Prelude.{Option};
     ghost use Rattle.la_durable.specs.CallLines.{CallLine, call_line, or_tick, call_round_trip, line_is_clean};
     ghost use Rattle.la_durable.specs.Heads.{node_head, head_is_clean};
+    ghost use Rattle.la_durable.specs.NodeStates.{named_node};
     ghost use Rattle.la_durable.specs.Nodes.{step, NodeAnswered, node_answer_of, node_answers, says_still};
     ghost use Rattle.la_durable.specs.Still.{still_calls};
 
@@ -239,7 +241,7 @@ impl Machine for NodeMachine {
 
     ghost named = { call_line };
 
-    ghost named_state = { λ _. None };
+    ghost named_state = { named_node };
 
     ghost lacks_memory = { IsForMemory };
 
@@ -276,7 +278,25 @@ impl Machine for NodeMachine {
         }
     }
 
-    fn read_state(&mut self, _alloc: Global, _bytes: &[u8]) -> Result<bool, AllocError> {
-        Ok(false)
+    fn read_state(&mut self, alloc: Global, bytes: &[u8]) -> Result<bool, AllocError> {
+        match node_in(alloc, bytes)? {
+            Some(node) => {
+                self.node = node;
+                Ok(true)
+            }
+            None => Ok(false),
+        }
+    }
+}
+
+impl Snapshot for NodeMachine {
+    ghost use Rattle.la_durable.specs.NodeStates.{is_sayable, sayable_by_state};
+
+    ghost writes = { λ m. is_sayable (kept_by m) };
+
+    ghost by_state = { sayable_by_state };
+
+    fn write_state(&self, alloc: Global) -> Result<Option<Vec<u8>>, AllocError> {
+        text_of(alloc, &self.node)
     }
 }

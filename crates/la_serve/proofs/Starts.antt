@@ -20,6 +20,7 @@ use Rattle.la_journal.specs.declared.recovery.Unplayed.TheVariants as cause
 use Rattle.la_durable.specs.CallLines.{call_line}
 use Rattle.la_durable.specs.Nodes.{step}
 use Rattle.la_durable.specs.Heads.{node_head}
+use Rattle.la_durable.specs.NodeStates.{named_node}
 use Rattle.la_durable.specs.Errors.{IsForMemory}
 use Rattle.la_durable.specs.declared.error.NodeError.{NodeError}
 use Rattle.la_durable.specs.declared.error.NodeError.TheVariants as node
@@ -246,7 +247,7 @@ module _ {D R W E : Type 0} (f : Facts D R W E) (objects : List (ℕ × Kind)) (
 
   abbrev Cause : (before after : ℕ) → Unplayed NodeError → Type 0
   Cause before after why =
-      IsNotPlayed IsForMemory node_head (λ _. None) call_line step fresh before after (f.seen disk) why
+      IsNotPlayed IsForMemory node_head named_node call_line step fresh before after (f.seen disk) why
 
   abbrev told_of : Unplayed NodeError → NodeFault
   told_of why = of_journal (node_head fresh) options.config.replicas (length (f.seen disk)) why
@@ -288,7 +289,7 @@ module _ {D R W E : Type 0} (f : Facts D R W E) (objects : List (ℕ × Kind)) (
 -- a disk's fault comes only where it failed
 module _ (replicas found : ℕ) (head file : List ℕ) (start : ReplicaState) (before after : ℕ) where
   pub disk_failed : (why : Unplayed NodeError)
-      → IsNotPlayed IsForMemory node_head (λ _. None) call_line step start before after file why
+      → IsNotPlayed IsForMemory node_head named_node call_line step start before after file why
       → IfDisk (of_journal head replicas found why) (before < after)
   disk_failed cause.Memory is = tt
   disk_failed cause.Disk is = of_disk found

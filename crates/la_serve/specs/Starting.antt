@@ -16,6 +16,7 @@ use Rattle.la_durable.specs.CallLines.{call_line}
 use Rattle.la_durable.specs.Nodes.{empty_shelf, step}
 use Rattle.la_durable.specs.Restarts.{leads_from}
 use Rattle.la_durable.specs.Heads.{node_head}
+use Rattle.la_durable.specs.NodeStates.{named_node}
 use Rattle.la_durable.specs.Errors.{IsForMemory}
 use Rattle.la_durable.specs.declared.error.NodeError.{NodeError}
 use Rattle.la_io.specs.Streams.{TellsAll}
@@ -81,7 +82,7 @@ pub record RunsNot {D R W E : Type 0} (f : Facts D R W E) (options : Options) (d
 pub record IsUnplayable (options : Options) (file : List ℕ) (told : NodeFault) : Type 0 where
   pub nowhere : leads_from (at_start options.config options.own) file ≡ None
   pub why : Unplayed NodeError
-  pub is : IsNotPlayed IsForMemory node_head (λ _. None) call_line step (at_start options.config options.own) 0 0 file
+  pub is : IsNotPlayed IsForMemory node_head named_node call_line step (at_start options.config options.own) 0 0 file
       why
   pub told_as : told ≡ of_journal (node_head (at_start options.config options.own)) options.config.replicas (length file)
       why

@@ -14,3 +14,6 @@ pub mod ScriptCalls
 pub mod Tests
 pub mod AlikeLetters
 pub mod RequestLines
+pub mod StateSets
+pub mod EqualStates
+pub mod StateTexts

@@ -42,6 +42,13 @@ next_part byte f (y ∷ xs) (suc k) x got =
     next_part byte f xs k x got
     ∙ ap (λ n. (byte ∷ f x) ++ spaced byte (map f (drop n (y ∷ xs)))) {x = suc (k + 1)} {y = suc k + 1} (omega arith)
 
+-- some parts, and then others
+pub spaced_append : (byte : ℕ) (xs ys : List (List ℕ)) → spaced byte (xs ++ ys) ≡ spaced byte xs ++ spaced byte ys
+spaced_append byte [] ys = refl
+spaced_append byte (x ∷ xs) ys =
+    ap (λ t. byte ∷ x ++ t) (spaced_append byte xs ys)
+    ∙ ap (λ t. byte ∷ t) (sym (append_assoc x (spaced byte xs) (spaced byte ys)))
+
 -- a part that is written leaves the others to be written
 pub put_next : {A : Type 0} (byte : ℕ) (f : A → List ℕ) (xs : List A) (k : ℕ) (x : A) (before after all : List ℕ)
     → slice_get xs k ≡ Some x → after ≡ before ++ byte ∷ f x → before ++ spaced byte (map f (drop k xs)) ≡ all

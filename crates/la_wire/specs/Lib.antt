@@ -9,3 +9,5 @@ pub mod Requests
 pub mod Writable
 pub mod Tests
 pub mod Notes
+pub mod States
+pub mod SameStates

@@ -18,7 +18,21 @@
 //! bits: `inc X`, `dec X`, `raise X`, `put X`, `remove T ..` and `mark`, as in a script, and of an
 //! adopt-commit object `vote X`, or `sole X` where its voter saw that value alone, X of 64 bits.
 //!
-//! `specs/Messages.antt` has what letters say, `specs/Updates.antt` and `specs/MessageLines.antt` the lines.
+//! A replica's state is a text of one line, here with breaks:
+//!
+//! ```text
+//! state R view C votes V ..
+//! |cap N has C ballot B C open mine C reported C C C C C C C C learnt B C F yes .. F C ..;U;U..
+//! |..
+//! ```
+//!
+//! R is its number, V are the votes of its group, and behind each `|` stands an instance, from 0 on: its cap, what is
+//! accepted, the last ballot, `open` or `shut`, all that was submitted, what each of eight acceptors reported, and the
+//! ballot that was learnt last, or `none`; then of each reply that has counted its acceptor F and `yes`, or what was
+//! refused. The updates are those of all these sets, and in instance 0 of the view: each C counts from their front.
+//!
+//! `specs/Messages.antt` has what letters say, `specs/Updates.antt` and `specs/MessageLines.antt` the lines,
+//! `specs/States.antt` the texts of states.
 #![tactic(auto)]
 
 mod calls;
@@ -28,6 +42,7 @@ pub mod laws;
 mod messages;
 mod notes;
 mod requests;
+mod states;
 mod telling;
 mod updates;
 mod words;
@@ -41,5 +56,6 @@ pub use notes::{
     put_submitted, put_view,
 };
 pub use requests::{MAX_NAME, Request, request_in};
+pub use states::{put_state, same_state, state_in};
 pub use telling::{refuse, tell_fault};
 pub use writing::{put_letter, write};

@@ -90,7 +90,9 @@ fn header_in<'a, 'b>(words: &'a [&'b [u8]]) -> Result<(Header, &'a [&'b [u8]]), 
 }
 
 // The first word as counts, and the words behind it.
-fn first_counts<'a, 'b>(words: &'a [&'b [u8]]) -> Result<(Counts, &'a [&'b [u8]]), LineFault>
+pub(crate) fn first_counts<'a, 'b>(
+    words: &'a [&'b [u8]],
+) -> Result<(Counts, &'a [&'b [u8]]), LineFault>
     ensures { GivesFirst (first_counts (bytes_of words.now)) result }
 {
     match words {
@@ -100,7 +102,7 @@ fn first_counts<'a, 'b>(words: &'a [&'b [u8]]) -> Result<(Counts, &'a [&'b [u8]]
 }
 
 // The same, behind this word.
-fn counts_behind<'a, 'b>(
+pub(crate) fn counts_behind<'a, 'b>(
     label: &[u8],
     words: &'a [&'b [u8]],
 ) -> Result<(Counts, &'a [&'b [u8]]), LineFault>

@@ -116,7 +116,7 @@ fn put_update(out: &mut Vec<u8>, update: &Update) -> Result<(), AllocError>
     put_op(out, &update.op)
 }
 
-fn put_delta(out: &mut Vec<u8>, delta: &Delta) -> Result<(), AllocError>
+pub(crate) fn put_delta(out: &mut Vec<u8>, delta: &Delta) -> Result<(), AllocError>
     ensures exact { OnOk result
         (out.new.items ≡ out.old.items ++ spaced 59 (map update_text delta.now.more)) }
     ensures typed { OnOk result (All (IsUpdateFrom 0) delta.now.more) }
@@ -141,7 +141,11 @@ pub(crate) fn put_counts(out: &mut Vec<u8>, counts: Counts) -> Result<(), AllocE
 }
 
 // Writes counts as one word, behind this one.
-fn put_labelled(out: &mut Vec<u8>, label: &[u8], counts: Counts) -> Result<(), AllocError>
+pub(crate) fn put_labelled(
+    out: &mut Vec<u8>,
+    label: &[u8],
+    counts: Counts,
+) -> Result<(), AllocError>
     ensures exact { OnOk result
         (out.new.items ≡ out.old.items ++ spaced 32 (label.now ∷ counts_text counts ∷ [])) }
     ensures typed { OnOk result (IsCounts counts) }

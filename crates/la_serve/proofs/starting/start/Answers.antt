@@ -1,4 +1,4 @@
-use Rattle.std.proofs.Common.{◌≤◌, ◌<◌, ◌≡◌, refl, ℕ, None, Some, OnOk, IfErr, rules, length, sym, subst, ap, ◌∙◌}
+use Rattle.std.proofs.Common.{◌≤◌, ◌<◌, ◌≡◌, refl, ℕ, Some, OnOk, IfErr, rules, length, sym, subst, ap, ◌∙◌}
 use Rattle.la_set.specs.Histories.{Histories}
 use Rattle.la_set.specs.Inclusion.{IsSubset}
 use Rattle.la_journal.specs.Disk.{LeavesOnly}
@@ -9,6 +9,7 @@ use Rattle.la_journal.specs.Playing.{IsNotPlayed}
 use Rattle.la_durable.specs.CallLines.{call_line}
 use Rattle.la_durable.specs.Errors.{IsForMemory}
 use Rattle.la_durable.specs.Heads.{node_head}
+use Rattle.la_durable.specs.NodeStates.{named_node}
 use Rattle.la_durable.specs.Nodes.{kept_by, step}
 use Rattle.la_serve.specs.Faults.{of_journal, IfDisk}
 use Rattle.la_serve.specs.declared.error.NodeFault.{NodeFault}
@@ -99,7 +100,7 @@ returns-in-Err-recover g c =
     let same = io c.args.input.now c.args.out.now c.args.errors.now in
     let cause = subst
     (λ (m : NodeMachine).
-    IsNotPlayed IsForMemory node_head (λ _. None) call_line step (kept_by m) (g.D.Disk.faults disk)
+    IsNotPlayed IsForMemory node_head named_node call_line step (kept_by m) (g.D.Disk.faults disk)
     (g.D.Disk.faults final) (f.seen disk) why) c.in-Ok.ensures.start c.in-Err-recover.ensures.cause in
     let left = subst
     (λ (m : NodeMachine).
