@@ -14,3 +14,4 @@ pub mod ScriptCalls
 pub mod Tests
 pub mod AlikeLetters
 pub mod RequestLines
+pub mod NumberedLines
