@@ -16,3 +16,6 @@ pub mod Leading
 pub mod Crashing
 pub mod Lives
 pub mod Processes
+pub mod Numbering
+pub mod Submissions
+pub mod Once

@@ -73,7 +73,7 @@ of_letters back letters line m says (letter, has, is) =
 
 -- ## A call of a line
 
-where_some : {A : Type 0} (b : Bool) (k call : A) → cond b (Some k) None ≡ Some call → (b ≡ true) × (k ≡ call)
+pub where_some : {A : Type 0} (b : Bool) (k call : A) → cond b (Some k) None ≡ Some call → (b ≡ true) × (k ≡ call)
 where_some true k call e = (refl, same_Some k call e)
 where_some false k call e = absurd (none-some call e)
 
@@ -96,7 +96,7 @@ some_then f None y e = absurd (none-some y e)
 some_then f (Some x) y e = (x, refl, e)
 
 -- what is done for a call of a line
-call_of_line : (n : ReplicaState) (call : WireCall) (made : Given × ReplicaState) → acts n call ≡ Some made
+pub call_of_line : (n : ReplicaState) (call : WireCall) (made : Given × ReplicaState) → acts n call ≡ Some made
     → (action : NodeCall) × (node_call n call ≡ Some action) × (node_step n action ≡ Some made)
 unfolding acts
 call_of_line n call made e = some_then (node_step n) (node_call n call) made e

@@ -9,7 +9,9 @@ use Rattle.std.specs.Cmp.{both_ways}
 use Rattle.std.proofs.lemmas.List.Folds.{list_all_more}
 use Rattle.std.proofs.lemmas.Option.{slice_get_within, get_or_from_slice_get}
 use Rattle.la_set.specs.declared.counts.Counts.{Counts}
+use Rattle.la_set.specs.declared.update.Op.{Op}
 use Rattle.la_set.specs.declared.update.Update.{Update}
+use Rattle.la_proposer.specs.ProposerState.{op_on}
 use Rattle.la_set.specs.Histories.{Histories}
 use Rattle.la_set.specs.Counts.{counts_of, HasCounts}
 use Rattle.la_node.specs.declared.link.Standing.{Standing}
@@ -21,10 +23,10 @@ use Rattle.la_replica.specs.Again.{again}
 use Rattle.la_replica.specs.Bases.{AreToldIn}
 use Rattle.la_replica.specs.Whole.{whole_mail}
 use Rattle.la_wire.specs.Notes.{letters_text}
-use Rattle.la_wire.specs.Requests.{name_in}
+use Rattle.la_wire.specs.Requests.{name_in, asked_number}
 use Rattle.la_object.specs.declared.kind.Kind.{Kind}
 use Rattle.la_object.specs.declared.query.Query.{Query}
-use Rattle.la_wire.specs.Calls.{WireCall, Ask, Tick, Receive, Known, called}
+use Rattle.la_wire.specs.Calls.{WireCall, Submit, Ask, Tick, Receive, Known, called}
 use Rattle.la_wire.specs.Messages.{WireMessage, Tell}
 use Rattle.la_durable.specs.Inputs.{InputState}
 use Rattle.la_serve.specs.declared.said.Said.{Said}
@@ -32,8 +34,9 @@ use Rattle.la_serve.specs.declared.said.Said.TheVariants as said
 use Rattle.la_serve.specs.Io.{Io}
 use Rattle.la_serve.specs.Turns.{Turn, ServerState, OneOf, IsKeptTurn, IsToldBack, is_stale, is_reached, is_told_known}
 use Rattle.la_serve.specs.Turns.{only_writes, only_sends, own_of, question_answered, IsAnsweredTurn, IsTurnHere}
-use Rattle.la_serve.specs.Said.{said_text, IsSaidAnswer, answer_by, IsSaidAgain, IsSaidBack}
+use Rattle.la_serve.specs.Said.{said_text, IsSaidAnswer, answer_by, IsSaidAgain, IsSaidBack, IsSaidInstead}
 use Rattle.la_serve.specs.Serving.{OfCall, TakesBy, TakesLine, TellsNoLine}
+use Rattle.la_serve.proofs.Numbering.{said_here}
 use Rattle.la_serve.proofs.Taking.{takes_only}
 
 pub is_answered : (objects : List (ℕ × Kind)) (n : ServerState) (k object : ℕ) (query : Query) (line : List ℕ)
@@ -43,12 +46,16 @@ pub is_answered : (objects : List (ℕ × Kind)) (n : ServerState) (k object : �
 is_answered objects n k object query line (said.Lines text) is =
     inl (ap (only_writes n line) is.2 ∙ ap (question_answered n k object line) (sym is.1))
 is_answered objects n k object query line said.NoSuchObject is = inl (ap (question_answered n k object line) (sym is))
+is_answered objects n k object query line said.Stale is = absurd is
+is_answered objects n k object query line said.Gap is = absurd is
 is_answered objects n k object query line said.Memory is = inr refl
 
 pub is_told_back : (n : ServerState) (k from : ℕ) (line : List ℕ) (s : Said) → IsSaidBack n.kept from s
     → IsToldBack n k from (only_writes n line (said_text (own_of n) k (name_in line) s))
 is_told_back n k from line (said.Lines text) is = inl (ap (only_writes n line) is)
 is_told_back n k from line said.NoSuchObject is = absurd is
+is_told_back n k from line said.Stale is = absurd is
+is_told_back n k from line said.Gap is = absurd is
 is_told_back n k from line said.Memory is = inr refl
 
 -- of a letter that brings no news
@@ -94,6 +101,16 @@ module _ (Wrote : (before after : Option (List ℕ)) → List ℕ → Type 0) (k
       (only_writes before.state line (said_text (own_of before.state) k (name_in line) s)) true stale refl
       (is_told_back before.state k m.from line s is))
 
+  pub instead_taken : (replica object : ℕ) (op : Op) → called input.call ≡ Submit replica object op
+      → (asked : Option ℕ) → asked ≡ asked_number line
+      → IsSaidInstead before.state.kept name (op_on object op) asked (Some s)
+      → TakesBy Wrote (OfCall line input IsTurnHere k) TellsNoLine before after
+  instead_taken replica object op e asked is_asked is =
+      said_taken (Submit replica object op) e
+      (said_here before.state k (op_on object op) (Submit replica object op) (asked_number line) line s
+      (subst (λ o. IsSaidInstead before.state.kept (name_in line) (op_on object op) o (Some s)) is_asked
+      (subst (λ m. IsSaidInstead before.state.kept m (op_on object op) asked (Some s)) is_name is)))
+
 -- what waits is sent once more
 module _ (Wrote : (before after : Option (List ℕ)) → List ℕ → Type 0) (k : ℕ) (line : List ℕ) (input : InputState)
     (before after : Io) (same : after.state ≡ before.state) (still : after.journal ≡ before.journal) (own : ℕ)
@@ -125,6 +142,8 @@ module _ (Wrote : (before after : Option (List ℕ)) → List ℕ → Type 0) (k
       → TakesBy Wrote (OfCall line input IsTurnHere k) TellsNoLine before after
   tick_taken (said.Lines text) w is = sent_taken text.items w is.0 is.1 is.2 is.3
   tick_taken said.NoSuchObject w is = absurd is
+  tick_taken said.Stale w is = absurd is
+  tick_taken said.Gap w is = absurd is
   tick_taken said.Memory w is =
       said_taken Wrote k line input before after said.Memory same still own is_own name is_name w Tick e (inr refl)
 

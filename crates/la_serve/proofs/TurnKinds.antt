@@ -1,21 +1,24 @@
 -- What a line's turn can be.
 use Rattle.std.proofs.Common.{◌≡◌, ◌⊎◌, inl, inr, ℕ, Bool, true, false, List, [], refl, sym, subst, Option}
 use Rattle.std.proofs.Common.{Some, None}
+use Rattle.la_set.specs.ObjectOps.{ObjectOp}
+use Rattle.la_proposer.specs.ProposerState.{op_on}
 use Rattle.la_object.specs.declared.kind.Kind.{Kind}
 use Rattle.la_object.specs.declared.query.Answer.{Answer}
 use Rattle.la_io.specs.Limits.{is_too_long}
 use Rattle.la_wire.specs.declared.error.LineFault.TheVariants.{TooLong}
 use Rattle.la_wire.specs.Calls.{WireCall, Submit, Decide, Ask, Tick, Receive, Known}
 use Rattle.la_wire.specs.CallLines.{named_call}
-use Rattle.la_wire.specs.Requests.{called_in, name_in}
+use Rattle.la_wire.specs.Requests.{called_in, name_in, asked_number}
 use Rattle.la_durable.specs.CallLines.{is_line}
 use Rattle.la_durable.specs.declared.error.NodeError.TheVariants.{Memory}
 use Rattle.la_node.specs.declared.link.Links.{Links}
 use Rattle.la_serve.specs.Turns.{ServerState, Turn, only_writes, turn_refused, faulty, question_answered, question}
 use Rattle.la_serve.specs.Turns.{is_note, is_elsewhere, is_stale, known_after, OneOf, IsCallTaken, IsSentAgain}
-use Rattle.la_serve.specs.Turns.{IsStarved}
+use Rattle.la_serve.specs.Turns.{IsStarved, IsNumberedAs, IsSubmissionTurn}
 use Rattle.la_serve.specs.Turns.{IsKeptTurn, IsTurnHere, SaysCall, IsShortTurn, IsTurn}
 use Rattle.la_serve.specs.Said.{answer_by}
+use Rattle.la_serve.specs.Numbered.{submission_under, is_next_number}
 
 -- once this is known of others
 abbrev pub hearing : Links → ServerState → ServerState
@@ -67,9 +70,23 @@ module _ (objects : List (ℕ × Kind)) (n : ServerState) (known : Links) (k : �
         inr (inr (record { known = known; call = call; stands = stands; says = says; taken = taken }))
     kept_what (inr not) = inl (quiet n t (turn_refused m k t.line not.why) not.turn (refl, refl, refl, refl))
 
+    numbered_what : (number : ℕ) (d : ObjectOp) (o : Option ObjectOp) → IsNumberedAs m k number d o t → IsWhat n t
+    numbered_what number d None is = inl (quiet n t _ is (refl, refl, refl, refl))
+    numbered_what number d (Some e) (inl (same, inl again)) = inl (quiet n t _ again (refl, refl, refl, refl))
+    numbered_what number d (Some e) (inl (same, inr hungry)) = starved hungry
+    numbered_what number d (Some e) (inr (other, stale)) = inl (quiet n t _ stale (refl, refl, refl, refl))
+
+    submission_what : (d : ObjectOp) (asked : Option ℕ) → IsSubmissionTurn m k asked d call t → IsWhat n t
+    submission_what d None is = kept_what is
+    submission_what d (Some number) is = elim (one_of (is_next_number m.kept number) is) [
+      | inl kept ↦ kept_what kept
+      | inr not ↦ numbered_what number d (submission_under m.kept number) not
+    ]
+
   here_what : (call : WireCall) → is_line (called_in t.line) ≡ true → named_call (called_in t.line) ≡ Some call
       → IsTurnHere objects m k call t → IsWhat n t
-  here_what (Submit replica object op) stands says is = kept_what (Submit replica object op) stands says is
+  here_what (Submit replica object op) stands says is =
+      submission_what (Submit replica object op) stands says (op_on object op) (asked_number t.line) is
   here_what (Decide replica commit value) stands says is = kept_what (Decide replica commit value) stands says is
   here_what (Ask replica object query) stands says (inl is) =
       inl (quiet n t (question objects m k object query t.line) is

@@ -1,6 +1,7 @@
 pub mod Names
 pub mod Options
 pub mod Faults
+pub mod Numbered
 pub mod Turns
 pub mod Said
 pub mod Io
@@ -14,3 +15,4 @@ pub mod Ending
 pub mod Labels
 pub mod Lives
 pub mod Processes
+pub mod Once

@@ -1,11 +1,13 @@
 -- What a line comes to: what is written of it, what the journal gains, and the state after it.
-use Rattle.std.specs.Prelude.{◌≡◌, ◌⊎◌, ℕ, ◌-◌, nat_lt, nat_le, ◌==◌, Bool, true, false, not, ◌&&◌, ◌||◌, List, []}
-use Rattle.std.specs.Prelude.{◌∷◌, ◌++◌, codes, length, filter, Option, Some, None, if◌then◌else◌}
+use Rattle.std.specs.Prelude.{◌≡◌, ◌≢◌, ◌⊎◌, ℕ, ◌-◌, nat_lt, nat_le, ◌==◌, Bool, true, false, not, ◌&&◌, ◌||◌}
+use Rattle.std.specs.Prelude.{List, [], ◌∷◌, ◌++◌, codes, length, filter, Option, Some, None, if◌then◌else◌}
 use Rattle.std.specs.List.{list_all}
 use Rattle.la_set.specs.declared.counts.Counts.{Counts}
 use Rattle.la_set.specs.declared.update.Update.{Update}
+use Rattle.la_set.specs.ObjectOps.{ObjectOp}
 use Rattle.la_set.specs.Histories.{Histories, updates}
 use Rattle.la_set.specs.Counts.{count_in, counts_of}
+use Rattle.la_proposer.specs.ProposerState.{op_on}
 use Rattle.la_commit.specs.declared.outcome.Outcome.{Outcome}
 use Rattle.la_commit.specs.Instances.{commit_of}
 use Rattle.la_object.specs.declared.kind.Kind.{Kind}
@@ -43,7 +45,8 @@ use Rattle.la_world.specs.LiveGroups.{LearntSet, learnt_set}
 use Rattle.la_serve.specs.Names.{refusal_name}
 use Rattle.la_wire.specs.Notes.{submitted_note, proposed_note, learnt_note, view_note, outcome_note, answered_note}
 use Rattle.la_wire.specs.Notes.{refused_note, line_fault_line, letters_text, known_line}
-use Rattle.la_wire.specs.Requests.{called_in, name_in}
+use Rattle.la_wire.specs.Requests.{called_in, name_in, asked_number}
+use Rattle.la_serve.specs.Numbered.{submission_under, is_next_number}
 
 -- what a node stands on as it takes lines: what it keeps, and how far others are, as far as it heard
 pub record ServerState : Type 0 where
@@ -152,7 +155,7 @@ pub record Turn : Type 0 where
   -- the letters among that, and the sets that it notes as learnt
   pub sent : List Letter
   pub learnt : List LearntSet
-  -- the lines that the journal gains by it: the line without the request's name, or none
+  -- the lines that the journal gains by it: the line without the request's name and the submission's number, or none
   pub kept : List (List ℕ)
   -- what is told of it on standard error, line by line
   pub told : List (List ℕ)
@@ -252,6 +255,33 @@ IsTicked n k t = IsSentAgain n t ⊎ IsStarved n k t
 abbrev pub IsKeptTurn : ServerState → (k : ℕ) → WireCall → Turn → Type 0
 IsKeptTurn n k call t = IsCallTaken n call t ⊎ IsRefused n k call t
 
+-- one of two
+abbrev pub OneOf : Bool → (A B : Type 0) → Type 0
+OneOf true A B = A
+OneOf false A B = B
+
+-- line k was refused, with this word
+abbrev pub IsRefusedWith : (why : List ℕ) → ServerState → (k : ℕ) → Turn → Type 0
+IsRefusedWith why n k t = t ≡ only_writes n t.line (refused_note (own_of n) k why (name_in t.line))
+
+-- a submission that was done under this number is answered once more
+abbrev pub IsToldAgain : ServerState → (k number : ℕ) → Turn → Type 0
+IsToldAgain n k number t =
+    (t ≡ only_writes n t.line (submitted_note (own_of n) number (name_in t.line))) ⊎ IsStarved n k t
+
+-- a submission under a number that is not the next, by what was submitted under it: this very one, another, or nothing
+abbrev pub IsNumberedAs : ServerState → (k number : ℕ) → ObjectOp → Option ObjectOp → Turn → Type 0
+IsNumberedAs n k number d None t = IsRefusedWith (codes "Gap") n k t
+IsNumberedAs n k number d (Some e) t =
+    ((e ≡ d) × IsToldAgain n k number t) ⊎ ((e ≢ d) × IsRefusedWith (codes "Stale") n k t)
+
+-- a submission, under this number, where it says one: without one, or under the next, it is done
+abbrev pub IsSubmissionTurn : ServerState → (k : ℕ) → Option ℕ → ObjectOp → WireCall → Turn → Type 0
+IsSubmissionTurn n k None d call t = IsKeptTurn n k call t
+IsSubmissionTurn n k (Some number) d call t =
+    OneOf (is_next_number n.kept number) (IsKeptTurn n k call t)
+    (IsNumberedAs n k number d (submission_under n.kept number) t)
+
 -- an update of this number, or a later one, of the same replica is there
 abbrev pub is_reached : (view : Counts) → Update → Bool
 is_reached view u = nat_le u.id.number (count_in view u.id.replica)
@@ -267,11 +297,6 @@ is_told_known view (No base more) = false
 abbrev pub is_stale : ReplicaState → WireMessage → Bool
 is_stale n m = (m.instance == 0) && is_told_known n.view m.body
 
--- one of two
-abbrev pub OneOf : Bool → (A B : Type 0) → Type 0
-OneOf true A B = A
-OneOf false A B = B
-
 -- it is answered by how far this node is, so that it is not sent again
 abbrev pub IsToldBack : ServerState → (k from : ℕ) → Turn → Type 0
 IsToldBack n k from t = (t ≡ only_writes n t.line (known_line (standing_of n.kept from))) ⊎ IsStarved n k t
@@ -280,7 +305,8 @@ abbrev pub IsReceivedTurn : ServerState → (k : ℕ) → WireMessage → Turn �
 IsReceivedTurn n k m t = OneOf (is_stale n.kept m) (IsToldBack n k m.from t) (IsKeptTurn n k (Receive m) t)
 
 abbrev pub IsTurnHere : List (ℕ × Kind) → ServerState → (k : ℕ) → WireCall → Turn → Type 0
-IsTurnHere objects n k (Submit replica object op) t = IsKeptTurn n k (Submit replica object op) t
+IsTurnHere objects n k (Submit replica object op) t =
+    IsSubmissionTurn n k (asked_number t.line) (op_on object op) (Submit replica object op) t
 IsTurnHere objects n k (Decide replica commit value) t = IsKeptTurn n k (Decide replica commit value) t
 IsTurnHere objects n k (Ask replica object query) t = IsAnsweredTurn objects n k object query t
 IsTurnHere objects n k Tick t = IsTicked n k t
@@ -296,7 +322,7 @@ IsTurnOf objects n k call t =
 abbrev pub IsCallTurn : List (ℕ × Kind) → ServerState → (k : ℕ) → WireCall → Turn → Type 0
 IsCallTurn objects n k call t = IsTurnOf objects (after_hearing n call) k call t
 
--- a line that says a call, apart from the request's name, and that a journal may have
+-- a line that says a call, apart from the request's name and a submission's number, and that a journal may have
 pub record SaysCall (objects : List (ℕ × Kind)) (n : ServerState) (k : ℕ) (t : Turn) : Type 0 where
   pub call : WireCall
   pub says : named_call (called_in t.line) ≡ Some call

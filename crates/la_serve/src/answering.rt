@@ -15,8 +15,10 @@ ghost use Rattle.la_serve.specs.Io.{io_of, TakesLines, OnlyStages};
 ghost use Rattle.la_serve.specs.Serving.{OfLine, OfCall, TakesLine, Breaks, TellsNoLine};
 ghost use Rattle.la_serve.specs.Asking.{IsAskingFor};
 
+use crate::asking::{Asking, read_called};
 use crate::keeping::{Kept, keep};
 use crate::names::refusal_name;
+use crate::numbered::said_instead;
 use crate::said::Said;
 use crate::texts::{answer_text, mail_text, standing_text, text_of};
 use crate::{NodeFault, Server};
@@ -30,14 +32,6 @@ use la_set::{Counts, Delta, UpdateSet};
 use la_wire::{Call, LineError, MAX_NAME, refuse, request_in, tell_fault};
 use std::alloc::Global;
 use std::io::Write;
-
-// A line that asks for something, by its number, and the name of that request.
-#[derive(Clone, Copy)]
-struct Asking<'a> {
-    number: u64,
-    line: &'a [u8],
-    name: &'a str,
-}
 
 // Whether a line is passed over: it is empty, or a note.
 fn is_note(line: &[u8]) -> bool
@@ -223,6 +217,8 @@ fn put<W: Write>(
     match said {
         Said::Lines(text) => write_lines(output, text),
         Said::NoSuchObject => refuse(output, own, asking.number, "NoSuchObject", asking.name),
+        Said::Stale => refuse(output, own, asking.number, "Stale", asking.name),
+        Said::Gap => refuse(output, own, asking.number, "Gap", asking.name),
         Said::Memory => refuse(output, own, asking.number, "Memory", asking.name),
     }
 }
@@ -263,9 +259,17 @@ fn call_here<W: Write, D: Disk, B: Replicated>(
             Ok(())
         }
         Call::Known(_) => Ok(()),
-        Call::Submit { .. } | Call::Decide { .. } | Call::Receive(_) => {
-            take(alloc, server, asking, input, output)
+        Call::Submit { object, op, .. } => {
+            let machine = &server.node.durable.machine;
+            match said_instead(alloc, machine, asking.update, (*object, op), asking.name) {
+                Some(said) => {
+                    put(output, machine.node.own(), asking, &said)?;
+                    Ok(())
+                }
+                None => take(alloc, server, asking, input, output),
+            }
         }
+        Call::Decide { .. } | Call::Receive(_) => take(alloc, server, asking, input, output),
     }
 }
 
@@ -309,7 +313,8 @@ fn call<W: Write, D: Disk, B: Replicated>(
 }
 
 /// Takes line `number` of an input, which has no more bytes than [`la_io::limit_of`] says, without its end. Where it is
-/// kept it is staged, without the name of its request: what is written of it may go out only once that is committed.
+/// kept it is staged, without the name of its request and a submission's number: what is written of it may go out only
+/// once that is committed.
 ///
 /// `WriteFault` comes where a write fails, and `Memory` where the lines find no room: then a front of
 /// them is written, and the call is staged.
@@ -332,11 +337,16 @@ pub fn answer<W: Write, E: Listener, D: Disk, B: Replicated>(
     }
     let request = request_in(line);
     let name = request.name;
-    match Input::read(alloc, request.call) {
-        Ok(input) => {
+    match read_called(alloc, request.call) {
+        Ok((input, update)) => {
             // a hint to the prover: what the input says
             let _call = input.call();
-            let asking = Asking { number, line, name };
+            let asking = Asking {
+                number,
+                line,
+                name,
+                update,
+            };
             call(alloc, server, asking, &input, output)
         }
         Err(LineError::Fault(fault)) => {

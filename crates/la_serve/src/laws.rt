@@ -1,6 +1,8 @@
 //! What holds of nodes that are killed at any moment, by power or by force: laws that no code runs.
 ghost use Rattle.la_serve.specs.Lives.{KilledNodesGoOn, NodeLivesAreOneRun};
 ghost use Rattle.la_serve.specs.Processes.{NewProcessesAreTogether, TurnsKeepTogether, RestartsKeepTogether};
+ghost use Rattle.la_serve.specs.Once.{MayGoOn, NumbersCountOnce};
+ghost use Rattle.la_durable.specs.Nodes.{kept_by};
 
 use la_durable::NodeMachine;
 use la_journal::Disk;
@@ -36,4 +38,29 @@ pub fn processes_stay_together()
     la_world::live::replicas_stay_together();
     la_wire::laws::letters_are_read_back_or_not();
     la_durable::laws::restarts_take_calls();
+}
+
+/// Submissions under numbers count once, over any lines that a node takes, whatever they are, late or again: a line under
+/// a number leaves the replica as it was, or adds just what it asks, as the update with this number, which came next. Of
+/// one that is answered as submitted that update is what it asks, and so it stays. So a client that numbers its
+/// submissions may send each again until it is answered: it is submitted once, or another has its number.
+pub fn numbers_count_once()
+    ensures { NumbersCountOnce }
+{
+    // hints to the prover: of proposers, and of lines
+    la_proposer::laws::proposers_may_be_resumed();
+    la_proposer::laws::replies_submit_nothing();
+    la_wire::laws::numbers_are_read_apart();
+}
+
+/// A node may go on at any time, as `numbers_count_once` has to know of the first: one that is new or started again too.
+pub fn nodes_may_go_on(machine: &NodeMachine)
+    ensures { MayGoOn (kept_by machine.now) }
+{
+    // hints to the prover: of its proposers, of which instance 0 has one
+    let replica = machine.node.replica();
+    let _own = replica.own();
+    if let Some(first) = replica.instances().first() {
+        let _submissions = first.proposer.submissions();
+    }
 }

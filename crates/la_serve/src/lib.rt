@@ -6,12 +6,14 @@
 #![tactic(auto)]
 
 mod answering;
+mod asking;
 mod ended;
 mod error;
 mod keeping;
 mod label;
 pub mod laws;
 mod names;
+mod numbered;
 mod options;
 mod output;
 mod said;

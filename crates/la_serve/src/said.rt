@@ -5,6 +5,10 @@ pub enum Said {
     Lines(Vec<u8>),
     /// A refusal: there is no such object.
     NoSuchObject,
+    /// A refusal: another submission has this number.
+    Stale,
+    /// A refusal: this number is not the next, and no submission has it.
+    Gap,
     /// A refusal: there was no memory.
     Memory,
 }

@@ -4,7 +4,7 @@ ghost use Rattle.la_replica.specs.Steps.{learnt_in};
 ghost use Rattle.la_wire.specs.Calls.{called};
 ghost use Rattle.la_node.specs.Steps.{given_of};
 ghost use Rattle.la_node.specs.Links.{letter_of, letters_of, is_owed};
-ghost use Rattle.la_wire.specs.Notes.{answered_note, message_line, letters_text, known_line};
+ghost use Rattle.la_wire.specs.Notes.{submitted_note, answered_note, message_line, letters_text, known_line};
 ghost use Rattle.la_durable.specs.Nodes.{kept_by};
 ghost use Rattle.la_serve.specs.Turns.{taken_text, learnt_line, growth_text, return_text};
 ghost use Rattle.la_serve.specs.Turns.{receipt_text, call_text};
@@ -175,6 +175,20 @@ pub fn text_of(
     put_taken(&mut out, call, name, &machine.node)?;
     put_receipt(&mut out, &machine.node, before, call, given)?;
     put_mail(&mut out, links, &machine.node, &given.done.mail)?;
+    Ok(out)
+}
+
+/// What is written for a submission that was done before, to a request of this name.
+pub fn submitted_text(
+    alloc: Global,
+    own: u8,
+    number: u32,
+    name: &str,
+) -> Result<Vec<u8>, AllocError>
+    ensures { IfOk result (λ text. text.items ≡ submitted_note own number name.now) }
+{
+    let mut out = Vec::with_capacity(alloc, LINE)?;
+    put_submitted(&mut out, own, number, name)?;
     Ok(out)
 }
 

@@ -23,7 +23,7 @@ parted-joined byte w (v ∷ vs) own one rest =
     ∙ ap (λ ps. w ∷ ps)
     (parted-joined byte v vs own (All-head (Lacks byte) v vs rest) (All-tail (Lacks byte) v vs rest))
 
-plain-no_space : (w : List ℕ) → IsPlain w → Lacks 32 w
+pub plain-no_space : (w : List ℕ) → IsPlain w → Lacks 32 w
 plain-no_space w plain =
     All-weaker (λ b. is_plain b ≡ true) (λ b. eqb b 32 ≡ false) (λ b p. grind (arith, nat_tests)) w plain
 

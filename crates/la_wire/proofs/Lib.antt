@@ -17,3 +17,4 @@ pub mod RequestLines
 pub mod StateSets
 pub mod EqualStates
 pub mod StateTexts
+pub mod NumberedLines

@@ -14,7 +14,7 @@ use Rattle.std.proofs.lemmas.Str.{IsUtf8-from_ascii}
 use Rattle.std.proofs.lemmas.Str.Ascii.{IsAscii-from_all}
 use Rattle.std.proofs.Math.Seq.{drop-append-add, take-append_seam, get_or-append_seam}
 use Rattle.la_wire.specs.Requests.{has_no_at, is_name, is_name_byte, is_of_peer, is_named_at, Asked, nameless}
-use Rattle.la_wire.specs.Requests.{asked_at, asked_in, called_in, name_in}
+use Rattle.la_wire.specs.Requests.{asked_at, asked_in, unnamed_in, name_in}
 
 -- ## A line apart
 
@@ -22,7 +22,7 @@ at_peer : (line : List ℕ) → is_of_peer line ≡ true → asked_in line ≡ n
 unfolding asked_in
 at_peer line is = ap (λ b. cond b (nameless line) (asked_at line (position (λ c. c == 64) line))) is
 
-pub of_peer : (line : List ℕ) → is_of_peer line ≡ true → (called_in line ≡ line) × (name_in line ≡ [])
+pub of_peer : (line : List ℕ) → is_of_peer line ≡ true → (unnamed_in line ≡ line) × (name_in line ≡ [])
 of_peer line is =
     let e = at_peer line is in (ap (λ (a : Asked). a.call) e, ap (λ (a : Asked). a.name) e)
 
@@ -33,7 +33,7 @@ at_place line o is at =
     ap (λ b. cond b (nameless line) (asked_at line (position (λ c. c == 64) line))) is ∙ ap (asked_at line) at
 
 pub of_none : (line : List ℕ) → is_of_peer line ≡ false → position (λ b. b == 64) line ≡ None
-    → (called_in line ≡ line) × (name_in line ≡ [])
+    → (unnamed_in line ≡ line) × (name_in line ≡ [])
 of_none line is at =
     let e = at_place line None is at in (ap (λ (a : Asked). a.call) e, ap (λ (a : Asked). a.name) e)
 
@@ -45,7 +45,7 @@ apart line at b = cond b (asked (take (at - 1) line) (drop (at + 1) line)) (name
 
 pub of_some : (line : List ℕ) (at : ℕ) (b : Bool) → is_of_peer line ≡ false → position (λ c. c == 64) line ≡ Some at
     → is_named_at line at ≡ b
-    → (called_in line ≡ cond b (take (at - 1) line) line) × (name_in line ≡ cond b (drop (at + 1) line) [])
+    → (unnamed_in line ≡ cond b (take (at - 1) line) line) × (name_in line ≡ cond b (drop (at + 1) line) [])
 of_some line at true is place named =
     let e : asked_in line ≡ apart line at true = at_place line (Some at) is place ∙ ap (apart line at) named in
     (ap (λ (a : Asked). a.call) e, ap (λ (a : Asked). a.name) e)

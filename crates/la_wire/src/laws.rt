@@ -1,15 +1,19 @@
 // What the definitions mean: laws over every call, which no code runs.
-ghost use Rattle.std.specs.Prelude.{◌≡◌, ◌≤◌, ◌+◌, ◌*◌, ◌↔◌, ◌∷◌, ◌++◌, ℕ, List, true, false, length, All, Some, Ok, IsTrue};
+ghost use Rattle.std.specs.Prelude.{◌≡◌, ◌≤◌, ◌+◌, ◌*◌, ◌↔◌, ◌∷◌, ◌++◌, ℕ, List, true, false, length, All, Some, None};
+ghost use Rattle.std.specs.Prelude.{Ok, IsTrue};
+ghost use Rattle.la_set.specs.declared.update.Op.{Op};
+ghost use Rattle.la_set.specs.declared.update.UpdateId.{UpdateId};
 ghost use Rattle.la_replica.specs.Parcels.{AreAlikeParcels};
 ghost use Rattle.la_node.specs.declared.link.Letter.{Letter};
 ghost use Rattle.la_io.specs.Limits.{is_too_long};
 ghost use Rattle.la_wire.specs.Messages.{WireMessage, letter_message};
 ghost use Rattle.la_wire.specs.MessageLines.{carried, message_text};
-ghost use Rattle.la_wire.specs.Calls.{WireCall, Receive};
+ghost use Rattle.la_wire.specs.Calls.{WireCall, Submit, Receive};
 ghost use Rattle.la_wire.specs.CallLines.{call_line_text, named_call, bounded_call_of, may_stand};
-ghost use Rattle.la_wire.specs.Writable.{IsCall, IsMessage, IsTypedMessage, IsTagless};
+ghost use Rattle.la_wire.specs.Writable.{IsId, IsCall, IsMessage, IsTypedMessage, IsTagless};
 ghost use Rattle.la_wire.specs.Tests.{is_call};
 ghost use Rattle.la_wire.specs.Requests.{has_no_at, is_name, is_of_peer, asked_in, nameless};
+ghost use Rattle.la_wire.specs.Requests.{NumberedLine, numbered_in, numbered_submission, IsSubmission};
 
 /// What is written of a call names that call.
 pub fn calls_are_read_back()
@@ -48,6 +52,17 @@ pub fn requests_are_read_apart()
         → is_of_peer (line ++ 32 ∷ 64 ∷ name) ≡ false
         → asked_in (line ++ 32 ∷ 64 ∷ name) ≡ record { call = line; name = name } }
     ensures nameless { (line : List ℕ) → has_no_at line ≡ true → asked_in line ≡ nameless line }
+{}
+
+/// A submission that was written under a number is read as that number and the plain line of its call. A line that says
+/// a call has no number, so that none is taken for another; and what is called for under a number is a submission.
+pub fn numbers_are_read_apart()
+    ensures numbered { (id : UpdateId) (object : ℕ) (op : Op) → IsId id
+        → numbered_in (numbered_submission id object op)
+        ≡ Some (record { number = id.number; plain = call_line_text (Submit id.replica object op) }) }
+    ensures plain { (line : List ℕ) (c : WireCall) → named_call line ≡ Some c → numbered_in line ≡ None }
+    ensures submits { (line : List ℕ) (n : NumberedLine) (c : WireCall) → numbered_in line ≡ Some n
+        → named_call n.plain ≡ Some c → IsSubmission c }
 {}
 
 /// Whether a call can be had is a test.

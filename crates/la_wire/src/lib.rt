@@ -55,7 +55,7 @@ pub use notes::{
     put_answered, put_known_line, put_learnt, put_letter_line, put_outcome, put_proposed,
     put_submitted, put_view,
 };
-pub use requests::{MAX_NAME, Request, request_in};
+pub use requests::{MAX_NAME, NumberedCall, Request, numbered_in, request_in};
 pub use states::{put_state, same_state, state_in};
 pub use telling::{refuse, tell_fault};
 pub use writing::{put_letter, write};

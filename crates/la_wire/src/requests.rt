@@ -1,21 +1,38 @@
-// Requests with names.
+// Requests with names, and submissions under numbers.
 ghost use Rattle.std.specs.Prelude.{◌≡◌, ◌+◌, ◌-◌, ◌==◌, ◌<◌, ◌≤◌, length, drop, position, true, false, MatchOption};
+ghost use Rattle.std.specs.Prelude.{IfOk, option_map};
 ghost use Rattle.std.specs.List.{list_all};
-ghost use Rattle.la_wire.specs.Requests.{is_name_byte, is_name, is_of_peer, is_named_at, called_in, name_in};
+ghost use Rattle.la_wire.specs.Requests.{is_name_byte, is_name, is_of_peer, is_named_at, unnamed_in, name_in};
+ghost use Rattle.la_wire.specs.Requests.{numbered_line, submission_line, numbered_by, numbered_in};
 
 use crate::calls::{first_kind, is_known};
+use la_script::{split_once, tag_of};
+use std::alloc::{AllocError, Global};
 use std::str;
 
 /// How many bytes the name of a request may have.
 pub const MAX_NAME: usize = 32;
 
+// The word that a submission begins with.
+const SUBMIT: &[u8] = b"submit";
+
 /// A line apart: what it calls for, and the name of the request.
 #[derive(Clone, Copy)]
 pub struct Request<'a> {
-    /// The line without the name, and without the ` @` before it.
+    /// The line without the name, and without the ` @` before it. It may be a submission under a number
+    /// ([`numbered_in`]).
     pub call: &'a [u8],
     /// 1 to [`MAX_NAME`] letters, digits, `_`, `.`, `:` or `-`; empty, where the request has none.
     pub name: &'a str,
+}
+
+/// A submission under a number, apart.
+#[derive(Drop)]
+pub struct NumberedCall {
+    /// Which of its replica's updates it is to be, from 1.
+    pub number: u32,
+    /// The line without the number, and without the full stop before it.
+    pub plain: Vec<u8>,
 }
 
 fn is_name_byte(b: u8) -> bool
@@ -87,7 +104,7 @@ fn is_of_peer(line: &[u8]) -> bool
 /// calls for what it says as a whole, and has no name. The same holds of every line of another replica, of which only
 /// the first word is looked at. It takes no memory, at a cost linear in the line.
 pub fn request_in(line: &[u8]) -> Request<'_>
-    ensures call { result.call.now ≡ called_in line.now }
+    ensures call { result.call.now ≡ unnamed_in line.now }
     ensures name { result.name.now ≡ name_in line.now }
     ensures short { length result.name.now ≤ MAX_NAME }
 {
@@ -108,4 +125,45 @@ pub fn request_in(line: &[u8]) -> Request<'_>
         },
         None => whole,
     }
+}
+
+// A submission by this word, and with the rest behind it.
+fn submission_line(alloc: Global, word: &[u8], rest: &[u8]) -> Result<Vec<u8>, AllocError>
+    ensures { IfOk result (λ line. line.items ≡ submission_line word.now rest.now) }
+{
+    let mut line = SUBMIT.to_vec(alloc)?;
+    line.push(b' ')?;
+    line.extend_from_slice(word)?;
+    line.push(b' ')?;
+    line.extend_from_slice(rest)?;
+    Ok(line)
+}
+
+// A submission apart, by the word behind `submit`, and by the rest.
+fn numbered_by(alloc: Global, word: &[u8], rest: &[u8]) -> Result<Option<NumberedCall>, AllocError>
+    ensures { IfOk result (λ o. option_map numbered_line o ≡ numbered_by word.now rest.now) }
+{
+    let Some(id) = tag_of(word) else {
+        return Ok(None);
+    };
+    let (replica, _) = split_once(word, b'.');
+    Ok(Some(NumberedCall {
+        number: id.number,
+        plain: submission_line(alloc, replica, rest)?,
+    }))
+}
+
+/// What a client calls for apart, where it is a submission under a number: `submit R.K ..`, with the id in place of
+/// the replica's number. Any other line has none, nor does one with a word there that is no id, of which the fault is
+/// found where the call is read. The cost is linear in the line, whose plain form takes memory.
+#[tactic(auto, unfolding(crate::specs::Requests::numbered_in))]
+pub fn numbered_in(alloc: Global, line: &[u8]) -> Result<Option<NumberedCall>, AllocError>
+    ensures { IfOk result (λ o. option_map numbered_line o ≡ numbered_in line.now) }
+{
+    let (first, behind) = split_once(line, b' ');
+    if first != SUBMIT {
+        return Ok(None);
+    }
+    let (word, rest) = split_once(behind, b' ');
+    numbered_by(alloc, word, rest)
 }

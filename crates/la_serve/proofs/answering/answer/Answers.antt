@@ -1,9 +1,10 @@
-use Rattle.std.proofs.Common.{◌≡◌, codes, IfErr, refl, sym, subst, ◌∙◌, rules}
+use Rattle.std.proofs.Common.{◌≡◌, codes, IfErr, refl, sym, ap, subst, ◌∙◌, rules}
 use Rattle.std.specs.Io.KnownBytes.{Appends}
 use Rattle.la_io.specs.Streams.{AppendsPrefix, TellsLine}
 use Rattle.la_durable.specs.Inputs.{IsInputRefusal}
 use Rattle.la_wire.specs.declared.error.LineError.TheVariants.{Fault}
 use Rattle.la_wire.specs.Notes.{line_fault_line}
+use Rattle.la_wire.specs.Requests.{unnumbered, numbered_in}
 use Rattle.la_serve.specs.declared.error.NodeFault.TheVariants.{WriteFault}
 use Rattle.la_serve.specs.Io.{io_of}
 use Rattle.la_serve.proofs.Taking.{if_err_cut}
@@ -21,7 +22,7 @@ pub returns-in-Ok-clause-ok : goal.returns-in-Ok-clause-ok
 returns-in-Ok-clause-ok g c =
     ok_line g.E.Write.contents g.E.Listener.refuses c.args.number c.args.line.now c.requires.short _ c.args.errors.now
     (sym c.is_note.ensures ∙ c.if-is_note.false) _ c.in-Ok.input
-    (c.in-Ok.ensures.ok ∙ c.request_in-request.ensures.call)
+    (c.in-Ok.ensures.line ∙ ap (λ l. unnumbered l (numbered_in l)) c.request_in-request.ensures.call)
     c.call-call.ensures.says
     c.call-call.ensures.line c.call.result c.call.ensures.ok
 
@@ -29,7 +30,7 @@ pub returns-in-Ok-clause-err : goal.returns-in-Ok-clause-err
 returns-in-Ok-clause-err g c =
     err_line g.E.Write.contents g.E.Listener.refuses c.args.number c.args.line.now c.requires.short _ c.args.errors.now
     (sym c.is_note.ensures ∙ c.if-is_note.false) _ c.in-Ok.input
-    (c.in-Ok.ensures.ok ∙ c.request_in-request.ensures.call)
+    (c.in-Ok.ensures.line ∙ ap (λ l. unnumbered l (numbered_in l)) c.request_in-request.ensures.call)
     c.call-call.ensures.says
     c.call-call.ensures.line c.call.result c.call.ensures.err
 
@@ -39,9 +40,12 @@ returns-in-Err-Fault-clause-ok g c =
     fault_taken g.E.Write.contents g.E.Listener.refuses c.args.number c.args.line.now c.requires.short _
     c.args.errors.now
     (sym c.is_note.ensures ∙ c.if-is_note.false) c.tell_fault.new.errors c.in-Err-Fault.fault
-    (subst (λ l. IsInputRefusal l (Fault c.in-Err-Fault.fault)) c.request_in-request.ensures.call
-    (subst (IsInputRefusal c.request_in-request.result.call.now) c.in-Err-Fault.field-0-is
-    c.in-Err-Fault.ensures.error))
+    (subst (λ l. IsInputRefusal (unnumbered l (numbered_in l)) (Fault c.in-Err-Fault.fault))
+    c.request_in-request.ensures.call
+    (subst
+    (IsInputRefusal
+    (unnumbered c.request_in-request.result.call.now (numbered_in c.request_in-request.result.call.now)))
+    c.in-Err-Fault.field-0-is c.in-Err-Fault.ensures.error))
     (subst (λ m. TellsLine g.E.Write.contents g.E.Listener.refuses c.args.errors.now c.tell_fault.new.errors
     (line_fault_line c.args.number c.in-Err-Fault.fault m)) c.request_in-request.ensures.name told)
 

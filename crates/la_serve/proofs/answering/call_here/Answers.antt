@@ -5,7 +5,7 @@ use Rattle.la_wire.specs.Calls.{called}
 use Rattle.la_serve.specs.declared.error.NodeFault.TheVariants.{WriteFault}
 use Rattle.la_serve.proofs.Taking.{if_err_cut}
 use Rattle.la_wire.specs.Messages.{letter_message}
-use Rattle.la_serve.proofs.Saying.{ask_taken, tick_taken, back_taken, known_taken}
+use Rattle.la_serve.proofs.Saying.{ask_taken, tick_taken, back_taken, known_taken, instead_taken}
 use Rattle.la_serve.proofs.answering.call_here.Goals as goal
 
 pub returns-in_ok-put-in-Ask-clause-ok : goal.returns-in_ok-put-in-Ask-clause-ok
@@ -62,3 +62,17 @@ pub returns-in-Known-clause-ok : goal.returns-in-Known-clause-ok
 returns-in-Known-clause-ok g c =
     known_taken c.args.asking.line.now c.args.input.now c.args.asking.number _ c.in-Known.field-0
     (ap called (sym c.call.ensures.is ∙ c.in-Known.is))
+
+pub returns-in_ok-put-in-Some-clause-ok : goal.returns-in_ok-put-in-Some-clause-ok
+returns-in_ok-put-in-Some-clause-ok g c =
+    instead_taken Appends c.args.asking.number c.args.asking.line.now c.args.input.now _ _ c.in-Some.said refl refl _
+    c.own-in-Some.ensures _ c.requires.asked.name c.in_ok-put-in-Some.ensures.ok _ _ _
+    (ap called (sym c.call.ensures.is ∙ c.in-Submit.is)) _ c.requires.asked.update c.in-Some.ensures
+
+pub returns-in_err-put-in-Some-clause-err : goal.returns-in_err-put-in-Some-clause-err
+returns-in_err-put-in-Some-clause-err g c =
+    let f : IfErr c.from_residual-in_err-put-in-Some.result (λ e. e ≡ WriteFault) = search rules in
+    if_err_cut _ _ _ _ c.from_residual-in_err-put-in-Some.result f
+    (instead_taken AppendsPrefix c.args.asking.number c.args.asking.line.now c.args.input.now _ _ c.in-Some.said refl
+    refl _ c.own-in-Some.ensures _ c.requires.asked.name c.in_err-put-in-Some.ensures.err _ _ _
+    (ap called (sym c.call.ensures.is ∙ c.in-Submit.is)) _ c.requires.asked.update c.in-Some.ensures)

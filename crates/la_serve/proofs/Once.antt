@@ -1,0 +1,262 @@
+-- Submissions under numbers count once.
+use Rattle.std.proofs.Common.{◌≡◌, ◌⊎◌, inl, inr, ℕ, zero, suc, ◌+◌, ◌==◌, Bool, true, false, not, List, []}
+use Rattle.std.proofs.Common.{◌∷◌, ◌++◌, length, get_or, slice_get, codes, Option, Some, None, refl, sym, ap, subst}
+use Rattle.std.proofs.Common.{◌∙◌, append_assoc, append-nil, add-one, arith}
+use Rattle.std.specs.Fmt.{decimal}
+use Rattle.std.proofs.lemmas.Bool.{eqb-true, false≢true}
+use Rattle.std.proofs.lemmas.List.{append_cancel_left}
+use Rattle.std.proofs.lemmas.Option.{none-some}
+use Rattle.la_set.specs.ObjectOps.{ObjectOp}
+use Rattle.la_set.specs.Histories.{object_op_number}
+use Rattle.la_set.specs.declared.update.Op.{Op}
+use Rattle.la_object.specs.declared.kind.Kind.{Kind}
+use Rattle.la_proposer.specs.ProposerState.{op_on}
+use Rattle.la_node.specs.Calls.{Submitted}
+use Rattle.la_node.specs.Steps.{node_step}
+use Rattle.la_node.proofs.lemmas.Stepping.{some_of}
+use Rattle.la_replica.specs.ReplicaState.{ReplicaState}
+use Rattle.la_io.specs.Limits.{is_too_long}
+use Rattle.la_wire.specs.declared.error.LineFault.TheVariants.{TooLong}
+use Rattle.la_wire.specs.Calls.{WireCall, Submit, Decide, Ask, Tick, Receive, Known}
+use Rattle.la_wire.specs.CallLines.{named_call}
+use Rattle.la_wire.specs.Notes.{submitted_note, refused_note}
+use Rattle.la_wire.specs.Requests.{NumberedLine, numbered_in, unnamed_in, unnumbered, called_in, name_in, asked_number}
+use Rattle.la_wire.specs.Requests.{IsSubmission}
+use Rattle.la_serve.specs.Numbered.{submissions_by, submission_under, is_next_number}
+use Rattle.la_serve.specs.Once.{MayGoOn, AddsUnder, AsksUnder, NumbersCountOnce}
+use Rattle.la_serve.specs.Serving.{AreTurns}
+use Rattle.la_serve.specs.Turns.{ServerState, Turn, OneOf, own_of, only_writes, faulty, is_note, IsCallTaken}
+use Rattle.la_serve.specs.Turns.{IsNumberedAs, IsSubmissionTurn, IsStarved, HasFault, SaysCall, IsCallTurn}
+use Rattle.la_serve.specs.Turns.{IsShortTurn, IsTurn}
+use Rattle.la_serve.proofs.Processes.{call_of_line, where_some}
+use Rattle.la_serve.proofs.Submissions.{ProposersGoOn, GoesOnWith, step_goes}
+use Rattle.la_serve.proofs.TurnKinds.{what}
+
+-- ## What stands under a number
+
+get_more : (xs ys : List ObjectOp) (k : ℕ) (d : ObjectOp) → slice_get xs k ≡ Some d → slice_get (xs ++ ys) k ≡ Some d
+get_more [] ys k d e = absurd (none-some d e)
+get_more (x ∷ xs) ys zero d e = e
+get_more (x ∷ xs) ys (suc k) d e = get_more xs ys k d e
+
+under_more : (xs ys : List ObjectOp) (number : ℕ) (d : ObjectOp) → object_op_number xs number ≡ Some d
+    → object_op_number (xs ++ ys) number ≡ Some d
+under_more xs ys zero d e = absurd (none-some d e)
+under_more xs ys (suc k) d e = get_more xs ys k d e
+
+get_last : (xs : List ObjectOp) (d : ObjectOp) → slice_get (xs ++ d ∷ []) (length xs) ≡ Some d
+get_last [] d = refl
+get_last (x ∷ xs) d = get_last xs d
+
+under_last : (xs : List ObjectOp) (number : ℕ) (d : ObjectOp) → number ≡ length xs + 1
+    → object_op_number (xs ++ d ∷ []) number ≡ Some d
+under_last xs number d is =
+    ap (object_op_number (xs ++ d ∷ [])) (is ∙ add-one (length xs)) ∙ get_last xs d
+
+adds_under : (number : ℕ) (d : ObjectOp) (before after : ReplicaState) → AddsUnder number d before after
+    → submission_under after number ≡ Some d
+adds_under number d before after adds =
+    ap (λ ds. object_op_number ds number) adds.1 ∙ under_last (submissions_by before) number d adds.0
+
+-- ## Notes
+
+notes_differ : (front x y more : List ℕ) → ((front ++ x) ++ 10 ∷ []) ++ more ≡ (front ++ y) ++ 10 ∷ []
+    → (x ++ 10 ∷ []) ++ more ≡ y ++ 10 ∷ []
+notes_differ front x y more e =
+    append_cancel_left front ((x ++ 10 ∷ []) ++ more) (y ++ 10 ∷ [])
+    (sym (ap (λ l. l ++ more) (append_assoc front x (10 ∷ [])) ∙ append_assoc front (x ++ 10 ∷ []) more)
+    ∙ e ∙ append_assoc front y (10 ∷ []))
+
+not_refused : (own number k : ℕ) (name why name2 more : List ℕ)
+    → submitted_note own number name ++ more ≡ refused_note own k why name2 → ⊥
+not_refused own number k name why name2 more e =
+    let behind = notes_differ (codes "# r" ++ decimal own) _ _ more e in
+    let second = ap (λ l. get_or l 1 0) behind in omega (arith, second)
+
+not_silent : (own number : ℕ) (name more : List ℕ) → [] ≡ submitted_note own number name ++ more → ⊥
+not_silent own number name more e = let none = ap (λ l. get_or l 0 0) e in omega (arith, none)
+
+-- ## A turn
+
+one_is : {A B : Type 0} (b : Bool) → OneOf b A B → ((b ≡ true) × A) ⊎ ((b ≡ false) × B)
+one_is true a = inl (refl, a)
+one_is false b = inr (refl, b)
+
+same_own : (b : Bool) → not b ≡ false → b ≡ true
+same_own true e = refl
+same_own false e = absurd (false≢true (sym e))
+
+-- nothing is written of a line, or why it was refused
+abbrev IsUnanswered : ServerState → Turn → Type 0
+IsUnanswered n t =
+    (t.text ≡ []) ⊎ ((k : ℕ) × (why : List ℕ) × (name : List ℕ) × (t.text ≡ refused_note (own_of n) k why name))
+
+-- under the number it stands, before or as it is added
+abbrev StandsOrAdds : (number : ℕ) → ObjectOp → (before after : ReplicaState) → Type 0
+StandsOrAdds number d before after =
+    ((after ≡ before) × (submission_under before number ≡ Some d)) ⊎ AddsUnder number d before after
+
+-- what comes of a line under a number
+abbrev Comes : ServerState → (number : ℕ) → Turn → Type 0
+Comes n number t =
+    ((t.after.kept ≡ n.kept) × IsUnanswered n t)
+    ⊎ ((d : ObjectOp) × AsksUnder n.kept.own t.line number d × StandsOrAdds number d n.kept t.after.kept)
+
+abbrev SaySubmissions : Type 0
+SaySubmissions =
+    (line : List ℕ) (n : NumberedLine) (c : WireCall) → numbered_in line ≡ Some n → named_call n.plain ≡ Some c
+    → IsSubmission c
+
+asks_submission : SaySubmissions → (line : List ℕ) (number : ℕ) (c : WireCall) → asked_number line ≡ Some number
+    → named_call (called_in line) ≡ Some c → IsSubmission c
+asks_submission say line number c asks says =
+    let s = some_of (λ (n : NumberedLine). n.number) (numbered_in (unnamed_in line)) number asks in
+    say (unnamed_in line) s.0 c s.1
+    (sym (ap (λ (o : Option NumberedLine). named_call (unnumbered (unnamed_in line) o)) s.1) ∙ says)
+
+module _ (laws : ProposersGoOn) (say : SaySubmissions) (objects : List (ℕ × Kind)) (n : ServerState) (k number : ℕ)
+    (t : Turn) (may : MayGoOn n.kept) (asks : asked_number t.line ≡ Some number) where
+  silent : (u : Turn) → t ≡ u → u.after.kept ≡ n.kept → u.text ≡ [] → Comes n number t
+  silent u is same none =
+      inl (ap (λ (x : Turn). x.after.kept) is ∙ same, inl (ap (λ (x : Turn). x.text) is ∙ none))
+
+  refused : (u : Turn) (j : ℕ) (why name : List ℕ) → t ≡ u → u.after.kept ≡ n.kept
+      → u.text ≡ refused_note (own_of n) j why name → Comes n number t
+  refused u j why name is same text =
+      inl (ap (λ (x : Turn). x.after.kept) is ∙ same, inr (j, why, name, ap (λ (x : Turn). x.text) is ∙ text))
+
+  module _ (replica object : ℕ) (op : Op) (own : (replica == n.kept.own) ≡ true)
+      (says : named_call (called_in t.line) ≡ Some (Submit replica object op)) where
+    abbrev d : ObjectOp
+    d = op_on object op
+
+    asks_this : AsksUnder n.kept.own t.line number d
+    asks_this = record {
+      numbered = asks;
+      says = says ∙ ap (λ r. Some (Submit r object op)) (eqb-true replica n.kept.own own);
+    }
+
+    taken : is_next_number n.kept number ≡ true → IsCallTaken n (Submit replica object op) t → Comes n number t
+    taken next is =
+        let call = call_of_line n.kept (Submit replica object op) (is.given, t.after.kept) is.acted in
+        let this : Submitted d ≡ call.0 =
+        (where_some (replica == n.kept.own) (Submitted d) call.0 call.1).1 in
+        let goes = step_goes laws n.kept may (Submitted d) (is.given, t.after.kept)
+        (subst (λ a. node_step n.kept a ≡ Some (is.given, t.after.kept)) (sym this) call.2) in
+        inr (d, asks_this, inr (eqb-true number (length (submissions_by n.kept) + 1) next, goes.adds))
+
+    by_found : (o : Option ObjectOp) → submission_under n.kept number ≡ o → IsNumberedAs n k number d o t
+        → Comes n number t
+    by_found None found is = refused _ k (codes "Gap") (name_in t.line) is refl refl
+    by_found (Some e) found (inl (same, inl again)) =
+        inr (d, asks_this, inl (ap (λ (x : Turn). x.after.kept) again, found ∙ ap Some same))
+    by_found (Some e) found (inl (same, inr hungry)) = refused _ k (codes "Memory") (name_in t.line) hungry refl refl
+    by_found (Some e) found (inr (other, stale)) = refused _ k (codes "Stale") (name_in t.line) stale refl refl
+
+    by_number : IsSubmissionTurn n k (Some number) d (Submit replica object op) t → Comes n number t
+    by_number is = elim (one_is (is_next_number n.kept number) is) [
+      | inl (next, inl kept) ↦ taken next kept
+      | inl (next, inr refusal) ↦ refused _ k _ (name_in t.line) refusal.turn refl refl
+      | inr (other, found) ↦ by_found (submission_under n.kept number) refl found
+    ]
+
+  by_call : (c : WireCall) → IsSubmission c → named_call (called_in t.line) ≡ Some c → IsCallTurn objects n k c t
+      → Comes n number t
+  by_call (Submit replica object op) is says turn =
+      elim (one_is (not (replica == n.kept.own)) turn) [
+        | inl (away, passed) ↦ silent _ passed refl refl
+        | inr (own, here) ↦
+            by_number replica object op (same_own (replica == n.kept.own) own) says
+            (subst (λ o. IsSubmissionTurn n k o (op_on object op) (Submit replica object op) t) asks here)
+      ]
+  by_call (Decide replica commit value) is says turn = absurd is
+  by_call (Ask replica object query) is says turn = absurd is
+  by_call Tick is says turn = absurd is
+  by_call (Receive m) is says turn = absurd is
+  by_call (Known s) is says turn = absurd is
+
+  by_short : IsShortTurn objects n k t → Comes n number t
+  by_short is =
+      elim
+      (one_is {A = t ≡ only_writes n t.line []} {B = SaysCall objects n k t ⊎ (HasFault n k t ⊎ IsStarved n k t)}
+      (is_note t.line) is) [
+        | inl (note, passed) ↦ silent _ passed refl refl
+        | inr (other, inl s) ↦ by_call s.call (asks_submission say t.line number s.call asks s.says) s.says s.turn
+        | inr (other, inr (inl has)) ↦ silent _ has.turn refl refl
+        | inr (other, inr (inr hungry)) ↦ refused _ k (codes "Memory") (name_in t.line) hungry refl refl
+      ]
+
+  comes : IsTurn objects n k t → Comes n number t
+  unfolding IsTurn
+  comes is =
+      elim
+      (one_is {A = t ≡ faulty n k t.line [] TooLong} {B = IsShortTurn objects n k t} (is_too_long t.line) is) [
+        | inl (long, told) ↦ silent _ told refl refl
+        | inr (short, turn) ↦ by_short turn
+      ]
+
+  once : IsTurn objects n k t
+      → (t.after.kept ≡ n.kept)
+      ⊎ ((d : ObjectOp) × AsksUnder n.kept.own t.line number d × AddsUnder number d n.kept t.after.kept)
+  once is = elim (comes is) [
+    | inl (same, unanswered) ↦ inl same
+    | inr (does, this, inl (same, stands)) ↦ inl same
+    | inr (does, this, inr adds) ↦ inr (does, this, adds)
+  ]
+
+  answered : (more : List ℕ) → IsTurn objects n k t → t.text ≡ submitted_note n.kept.own number (name_in t.line) ++ more
+      → (d : ObjectOp) × AsksUnder n.kept.own t.line number d × (submission_under t.after.kept number ≡ Some d)
+  answered more is text = elim (comes is) [
+    | inl (same, inl none) ↦ absurd (not_silent n.kept.own number (name_in t.line) more (sym none ∙ text))
+    | inl (same, inr (j, why, name, refusal)) ↦
+        absurd (not_refused n.kept.own number j (name_in t.line) why name more (sym text ∙ refusal))
+    | inr (does, this, inl (same, stands)) ↦ (does, this, ap (λ r. submission_under r number) same ∙ stands)
+    | inr (does, this, inr adds) ↦ (does, this, adds_under number does n.kept t.after.kept adds)
+  ]
+
+-- ## All turns
+
+module _ (laws : ProposersGoOn) (objects : List (ℕ × Kind)) where
+  same_goes : (before after : ReplicaState) → MayGoOn before → after ≡ before → GoesOnWith [] before after
+  same_goes before after may same =
+      subst (GoesOnWith [] before) (sym same)
+      (record { may = may; own = refl; adds = sym (append-nil (submissions_by before)) })
+
+  turn_goes : (n : ServerState) (k : ℕ) (t : Turn) → MayGoOn n.kept → IsTurn objects n k t
+      → (ds : List ObjectOp) × GoesOnWith ds n.kept t.after.kept
+  turn_goes n k t may is = elim (what objects n k t is) [
+    | inl quiet ↦ ([], same_goes n.kept t.after.kept may quiet.1)
+    | inr (inl (known, again)) ↦
+        ([], same_goes n.kept t.after.kept may (ap (λ (x : Turn). x.after.kept) again.turn))
+    | inr (inr takes) ↦
+        let call = call_of_line n.kept takes.call (takes.taken.given, t.after.kept) takes.taken.acted in
+        (_, step_goes laws n.kept may call.0 (takes.taken.given, t.after.kept) call.2)
+  ]
+
+  stays : (n after : ServerState) (k number : ℕ) (turns : List Turn) (d : ObjectOp) → MayGoOn n.kept
+      → AreTurns objects n k turns after → submission_under n.kept number ≡ Some d
+      → submission_under after.kept number ≡ Some d
+  stays n after k number [] d may are is =
+      subst (λ (m : ServerState). submission_under m.kept number ≡ Some d) (sym are) is
+  stays n after k number (t ∷ turns) d may are is =
+      let goes = turn_goes n k t may are.0 in
+      stays t.after after (k + 1) number turns d goes.1.may are.1
+      (ap (λ ds. object_op_number ds number) goes.1.adds
+      ∙ under_more (submissions_by n.kept) goes.0 number d is)
+
+  goes_on : (n after : ServerState) (k : ℕ) (turns : List Turn) → MayGoOn n.kept → AreTurns objects n k turns after
+      → MayGoOn after.kept × (after.kept.own ≡ n.kept.own)
+  goes_on n after k [] may are =
+      subst (λ (m : ServerState). MayGoOn m.kept × (m.kept.own ≡ n.kept.own)) (sym are) (may, refl)
+  goes_on n after k (t ∷ turns) may are =
+      let goes = (turn_goes n k t may are.0).1 in
+      let rest = goes_on t.after after (k + 1) turns goes.may are.1 in (rest.0, rest.1 ∙ goes.own)
+
+pub numbers_count : ProposersGoOn → SaySubmissions → NumbersCountOnce
+numbers_count laws say = record {
+  once = λ objects n k number t may is asks. once laws say objects n k number t may asks is;
+  answered =
+      λ objects n k number t more may is asks text. answered laws say objects n k number t may asks more is text;
+  stays = λ objects n after k number turns d may are is. stays laws objects n after k number turns d may are is;
+  goes_on = λ objects n after k turns may are. goes_on laws objects n after k turns may are;
+}
