@@ -75,6 +75,9 @@ cap_rule = filled (option (codes "cap") 1 1000000 (codes "1000000"))
 abbrev tick_rule : Rule
 tick_rule = filled (option (codes "tick") 0 3600 (codes "0"))
 
+abbrev compact_rule : Rule
+compact_rule = filled (option (codes "compact") 0 1000000 (codes "0"))
+
 abbrev journal_rule : Rule
 journal_rule = filled journal_option
 
@@ -83,135 +86,31 @@ no e = absurd (true≢false (sym e))
 
 replicas_alone : AllOne replicas_rule rules
 unfolding clap_on_literals
-replicas_alone = (
-  inr (refl, refl, λ e. refl),
-  (
-    inr (refl, refl, λ e. no e),
-    (
-      inr (refl, refl, λ e. no e),
-      (
-        inr (refl, refl, λ e. no e),
-        (
-          inr (refl, refl, λ e. no e),
-          (
-            inr (refl, refl, λ e. no e),
-            (inr (refl, refl, λ e. no e), (inl refl, (inl refl, tt))),
-          ),
-        ),
-      ),
-    ),
-  ),
-)
+replicas_alone = (inr (refl, refl, λ e. refl), (inr (refl, refl, λ e. no e), (inr (refl, refl, λ e. no e), (inr (refl, refl, λ e. no e), (inr (refl, refl, λ e. no e), (inr (refl, refl, λ e. no e), (inr (refl, refl, λ e. no e), (inr (refl, refl, λ e. no e), (inl refl, (inl refl, tt))))))))))
 
 own_alone : AllOne own_rule rules
 unfolding clap_on_literals
-own_alone = (
-  inr (refl, refl, λ e. no e),
-  (
-    inr (refl, refl, λ e. refl),
-    (
-      inr (refl, refl, λ e. no e),
-      (
-        inr (refl, refl, λ e. no e),
-        (
-          inr (refl, refl, λ e. no e),
-          (
-            inr (refl, refl, λ e. no e),
-            (inr (refl, refl, λ e. no e), (inl refl, (inl refl, tt))),
-          ),
-        ),
-      ),
-    ),
-  ),
-)
+own_alone = (inr (refl, refl, λ e. no e), (inr (refl, refl, λ e. refl), (inr (refl, refl, λ e. no e), (inr (refl, refl, λ e. no e), (inr (refl, refl, λ e. no e), (inr (refl, refl, λ e. no e), (inr (refl, refl, λ e. no e), (inr (refl, refl, λ e. no e), (inl refl, (inl refl, tt))))))))))
 
 commits_alone : AllOne commits_rule rules
 unfolding clap_on_literals
-commits_alone = (
-  inr (refl, refl, λ e. no e),
-  (
-    inr (refl, refl, λ e. no e),
-    (
-      inr (refl, refl, λ e. refl),
-      (
-        inr (refl, refl, λ e. no e),
-        (
-          inr (refl, refl, λ e. no e),
-          (
-            inr (refl, refl, λ e. no e),
-            (inr (refl, refl, λ e. no e), (inl refl, (inl refl, tt))),
-          ),
-        ),
-      ),
-    ),
-  ),
-)
+commits_alone = (inr (refl, refl, λ e. no e), (inr (refl, refl, λ e. no e), (inr (refl, refl, λ e. refl), (inr (refl, refl, λ e. no e), (inr (refl, refl, λ e. no e), (inr (refl, refl, λ e. no e), (inr (refl, refl, λ e. no e), (inr (refl, refl, λ e. no e), (inl refl, (inl refl, tt))))))))))
 
 cap_alone : AllOne cap_rule rules
 unfolding clap_on_literals
-cap_alone = (
-  inr (refl, refl, λ e. no e),
-  (
-    inr (refl, refl, λ e. no e),
-    (
-      inr (refl, refl, λ e. no e),
-      (
-        inr (refl, refl, λ e. refl),
-        (
-          inr (refl, refl, λ e. no e),
-          (
-            inr (refl, refl, λ e. no e),
-            (inr (refl, refl, λ e. no e), (inl refl, (inl refl, tt))),
-          ),
-        ),
-      ),
-    ),
-  ),
-)
+cap_alone = (inr (refl, refl, λ e. no e), (inr (refl, refl, λ e. no e), (inr (refl, refl, λ e. no e), (inr (refl, refl, λ e. refl), (inr (refl, refl, λ e. no e), (inr (refl, refl, λ e. no e), (inr (refl, refl, λ e. no e), (inr (refl, refl, λ e. no e), (inl refl, (inl refl, tt))))))))))
 
 tick_alone : AllOne tick_rule rules
 unfolding clap_on_literals
-tick_alone = (
-  inr (refl, refl, λ e. no e),
-  (
-    inr (refl, refl, λ e. no e),
-    (
-      inr (refl, refl, λ e. no e),
-      (
-        inr (refl, refl, λ e. no e),
-        (
-          inr (refl, refl, λ e. refl),
-          (
-            inr (refl, refl, λ e. no e),
-            (inr (refl, refl, λ e. no e), (inl refl, (inl refl, tt))),
-          ),
-        ),
-      ),
-    ),
-  ),
-)
+tick_alone = (inr (refl, refl, λ e. no e), (inr (refl, refl, λ e. no e), (inr (refl, refl, λ e. no e), (inr (refl, refl, λ e. no e), (inr (refl, refl, λ e. refl), (inr (refl, refl, λ e. no e), (inr (refl, refl, λ e. no e), (inr (refl, refl, λ e. no e), (inl refl, (inl refl, tt))))))))))
+
+compact_alone : AllOne compact_rule rules
+unfolding clap_on_literals
+compact_alone = (inr (refl, refl, λ e. no e), (inr (refl, refl, λ e. no e), (inr (refl, refl, λ e. no e), (inr (refl, refl, λ e. no e), (inr (refl, refl, λ e. no e), (inr (refl, refl, λ e. refl), (inr (refl, refl, λ e. no e), (inr (refl, refl, λ e. no e), (inl refl, (inl refl, tt))))))))))
 
 journal_alone : AllOne journal_rule rules
 unfolding clap_on_literals
-journal_alone = (
-  inr (refl, refl, λ e. no e),
-  (
-    inr (refl, refl, λ e. no e),
-    (
-      inr (refl, refl, λ e. no e),
-      (
-        inr (refl, refl, λ e. no e),
-        (
-          inr (refl, refl, λ e. no e),
-          (
-            inr (refl, refl, λ e. no e),
-            (inr (refl, refl, λ e. refl), (inl refl, (inl refl, tt))),
-          ),
-        ),
-      ),
-    ),
-  ),
-)
+journal_alone = (inr (refl, refl, λ e. no e), (inr (refl, refl, λ e. no e), (inr (refl, refl, λ e. no e), (inr (refl, refl, λ e. no e), (inr (refl, refl, λ e. no e), (inr (refl, refl, λ e. no e), (inr (refl, refl, λ e. no e), (inr (refl, refl, λ e. refl), (inl refl, (inl refl, tt))))))))))
 
 -- ---- what is required is there
 
@@ -284,6 +183,9 @@ module _ (words : List Text) (faultless : level_fault shape [] nothing_held word
       let tick = level_reads tick_rule shape [] words false [] tick_alone
       (defaults_there tick_rule (codes "0") [] (replicas_rule ∷ own_rule ∷ commits_rule ∷ cap_rule ∷ []) (drop 5 rules)
       start refl refl) faultless in
+      let compact = level_reads compact_rule shape [] words false [] compact_alone
+      (defaults_there compact_rule (codes "0") [] (replicas_rule ∷ own_rule ∷ commits_rule ∷ cap_rule ∷ tick_rule ∷ [])
+      (drop 6 rules) start refl refl) faultless in
       let journal_option = level_reads journal_rule shape [] words false [] journal_alone
       (given_there (codes "journal") rows (not_false _ both_given.1)) faultless in
       record {
@@ -292,6 +194,7 @@ module _ (words : List Text) (faultless : level_fault shape [] nothing_held word
         commits = record { text = commits.0; given = commits.1; passed = commits.2 };
         cap = record { text = cap.0; given = cap.1; passed = cap.2 };
         tick = record { text = tick.0; given = tick.1; passed = tick.2 };
+        compact = record { text = compact.0; given = compact.1; passed = compact.2 };
         journal = (_, journal_option.1);
       }
 

@@ -1,7 +1,7 @@
 -- What a start leads to.
 use Rattle.std.proofs.Common.{◌≡◌, Bool, true, false, ℕ, zero, suc, List, [], ◌++◌, refl, sym, ap, ◌∙◌, arith, ◌⊎◌}
 use Rattle.std.proofs.Common.{length, ◌≤◌, ◌<◌, Option, Some, None, option_map, Result, Ok, Err, OnOk, IfErr, inl}
-use Rattle.std.proofs.Common.{inr, subst}
+use Rattle.std.proofs.Common.{inr, subst, ⊎_elim, ◌∷◌, take}
 use Rattle.std.proofs.lemmas.Bool.{false≢true}
 use Rattle.std.proofs.lemmas.Option.{none-some}
 use Rattle.std.specs.Io.KnownBytes.{Appends}
@@ -17,7 +17,7 @@ use Rattle.la_journal.specs.Playing.{rest_in, IsNotPlayed}
 use Rattle.la_journal.specs.Records.{parts}
 use Rattle.la_journal.specs.declared.recovery.Unplayed.{Unplayed}
 use Rattle.la_journal.specs.declared.recovery.Unplayed.TheVariants as cause
-use Rattle.la_durable.specs.CallLines.{call_line}
+use Rattle.la_durable.specs.CallLines.{CallLine, call_line}
 use Rattle.la_durable.specs.Nodes.{step}
 use Rattle.la_durable.specs.Heads.{node_head}
 use Rattle.la_durable.specs.NodeStates.{named_node}
@@ -39,7 +39,10 @@ use Rattle.la_serve.specs.Io.{Io, Streams, Facts, io_with}
 use Rattle.la_serve.specs.Turns.{Turn}
 use Rattle.la_serve.specs.Serving.{ServesAll, ServesSome, ServesClosed, IsServeRefusal, kept_lines}
 use Rattle.la_serve.specs.Crashes.{Leaves, LeftBy, at_start}
-use Rattle.la_serve.specs.Starting.{RunsAll, RunsCut, RunsNot, IsServerStartRefusal, TellsOfRun, torn_told}
+use Rattle.la_serve.specs.Starting.{RunsAll, RunsCut, RunsNot, IsServerStartRefusal, TellsOfRun, torn_told, unsaid_told}
+use Rattle.la_serve.specs.Starting.{Begins, IsNotCompacted}
+use Rattle.la_durable.specs.NodeStates.{named_node}
+use Rattle.la_journal.specs.Machine.{LeadsToSome, steps}
 use Rattle.la_replica.specs.ReplicaState.{ReplicaState}
 
 -- nothing lies in every set
@@ -54,47 +57,40 @@ nothing_within s u is =
     nothing_at zero = refl
     nothing_at (suc k) = refl
 
--- ## What a crash leaves, in other words, with what was told before, and the journal by other bytes
+-- ## What a crash leaves, in other words, with what was told before
 
 module _ (Told Told2 : List (List ℕ) → Type 0) (told : (ts : List (List ℕ)) → Told ts → Told2 ts) (Left Left2 : (turns last : List Turn) → Type 0)
-    (to : (turns last : List Turn) → Left turns last → Left2 turns last) (before after : Io) (journal : List (List ℕ))
-    (same : before.journal ≡ journal) (objects : List (ℕ × Kind)) where
-  abbrev from : Io
-  from = record before { journal = journal }
-
+    (to : (turns last : List Turn) → Left turns last → Left2 turns last) (before after : Io)
+    (objects : List (ℕ × Kind)) where
   abbrev till : Io
   till = record after { objects = objects }
 
-  behind : (turns : List Turn) → after.journal ≡ before.journal ++ kept_lines turns → after.journal ≡ journal ++
-      kept_lines turns
-  behind turns is = is ∙ ap (λ (ls : List (List ℕ)). ls ++ kept_lines turns) same
-
-  pub serves_to : ServesAll Told Left before after → ServesAll Told2 Left2 from till
+  pub serves_to : ServesAll Told Left before after → ServesAll Told2 Left2 before till
   serves_to s = record {
     turns = s.turns;
     rest = s.rest;
     are = s.are;
     read = s.read;
     wrote = s.wrote;
-    journal = behind s.turns s.journal;
+    journal = s.journal;
     tells = told _ s.tells;
     left = to s.turns [] s.left;
   }
 
   some_to : (Wrote : (before after : Option (List ℕ)) → List ℕ → Type 0) → ServesSome Told Left Wrote before after
-      → ServesSome Told2 Left2 Wrote from till
+      → ServesSome Told2 Left2 Wrote before till
   some_to Wrote s = record {
     turns = s.turns;
     are = s.are;
     read = s.read;
     wrote = s.wrote;
-    journal = behind s.turns s.journal;
+    journal = s.journal;
     rest = s.rest;
     tells = told _ s.tells;
     left = to s.turns [] s.left;
   }
 
-  closed_to : ServesClosed Told Left before after → ServesClosed Told2 Left2 from till
+  closed_to : ServesClosed Told Left before after → ServesClosed Told2 Left2 before till
   closed_to s = record {
     turns = s.turns;
     last = s.last;
@@ -107,7 +103,7 @@ module _ (Told Told2 : List (List ℕ) → Type 0) (told : (ts : List (List ℕ)
     left = to s.turns s.last s.left;
   }
 
-  pub refusal_to : (f : NodeFault) → IsServeRefusal Told Left before after f → IsServeRefusal Told2 Left2 from till f
+  pub refusal_to : (f : NodeFault) → IsServeRefusal Told Left before after f → IsServeRefusal Told2 Left2 before till f
   refusal_to fault.DiskFault s = closed_to s
   refusal_to fault.ReadFault s = some_to Appends s
   refusal_to fault.WriteFault s = some_to AppendsPrefix s
@@ -126,20 +122,25 @@ stands_on kept known = record { kept = kept; known = known }
 module _ {D R W E : Type 0} (f : Facts D R W E) (objects objects2 : List (ℕ × Kind)) (options : Options)
     (disk recovered final : D) (old new : Streams R W E) (between : E) (before : ReplicaState) (now : ServerState)
     (known : Links) (nothing : known ≡ no_links)
-    (plays : leads_from (at_start options.config options.own) (f.seen disk) ≡ Some before)
+    (begun : Begins options (f.seen disk) before (lines (f.seen recovered)))
     (leads : leads_from (at_start options.config options.own) (f.seen recovered) ≡ Some before)
-    (same : lines (f.seen recovered) ≡ lines (f.seen disk))
     (recovery : LeavesOnly f.moment f.left_since disk recovered (IsSameOr (f.may_leave disk)
     (leads_from (at_start options.config options.own)) (f.seen disk)))
-    (told_first : TellsAll f.heard f.refuses old.errors between (torn_told (length (rest_in (parts (f.seen disk))))))
+    (first : E)
+    (told_first : TellsAll f.heard f.refuses old.errors first (torn_told (length (rest_in (parts (f.seen disk))))))
+    (told_then : TellsAll f.heard f.refuses first between (unsaid_told begun.unsaid))
   where
     abbrev Told : List (List ℕ) → Type 0
     Told = TellsAll f.heard f.refuses between new.errors
 
-    behind_first : (ls : List (List ℕ)) → Told ls → TellsOfRun f disk old new ls
+    abbrev ToldInAll : List (List ℕ) → Type 0
+    ToldInAll = TellsOfRun f disk begun.unsaid old new
+
+    behind_first : (ls : List (List ℕ)) → Told ls → ToldInAll ls
     behind_first ls told =
-        tells_on f.heard f.refuses old.errors between new.errors (torn_told (length (rest_in (parts (f.seen disk))))) ls
-        told_first told
+        tells_on f.heard f.refuses old.errors first new.errors (torn_told (length (rest_in (parts (f.seen disk)))))
+        (unsaid_told begun.unsaid ++ ls) told_first
+        (tells_on f.heard f.refuses first between new.errors (unsaid_told begun.unsaid) ls told_then told)
 
     abbrev Here : (turns last : List Turn) → Type 0
     Here = Leaves f.seen f.may_leave f.moment f.left_since before recovered final old.given new.given
@@ -165,15 +166,15 @@ module _ {D R W E : Type 0} (f : Facts D R W E) (objects objects2 : List (ℕ ×
         → OnOk r (RunsAll f objects options disk final old new)
     runs (Ok x) s = record {
       before = before;
-      plays = plays;
+      begins = lines (f.seen recovered);
+      begun = begun;
       journal = lines (f.seen final);
       now = now;
       serves =
           subst
-          (λ k. ServesAll (TellsOfRun f disk old new) There
-          (io_with f old objects (stands_on before k) (lines (f.seen disk))) at_end) nothing
-          (serves_to Told (TellsOfRun f disk old new) behind_first Here There of_run at_first at_last
-          (lines (f.seen disk)) same objects s);
+          (λ k. ServesAll ToldInAll There
+          (io_with f old objects (stands_on before k) (lines (f.seen recovered))) at_end) nothing
+          (serves_to Told ToldInAll behind_first Here There of_run at_first at_last objects s);
     }
     runs (Err e) s = tt
 
@@ -181,15 +182,15 @@ module _ {D R W E : Type 0} (f : Facts D R W E) (objects objects2 : List (ℕ ×
         → RunsCut f objects options disk final old new why
     cut why s = record {
       before = before;
-      plays = plays;
+      begins = lines (f.seen recovered);
+      begun = begun;
       journal = lines (f.seen final);
       now = now;
       stops =
           subst
-          (λ k. IsServeRefusal (TellsOfRun f disk old new) There
-          (io_with f old objects (stands_on before k) (lines (f.seen disk))) at_end why) nothing
-          (refusal_to Told (TellsOfRun f disk old new) behind_first Here There of_run at_first at_last
-          (lines (f.seen disk)) same objects why s);
+          (λ k. IsServeRefusal ToldInAll There
+          (io_with f old objects (stands_on before k) (lines (f.seen recovered))) at_end why) nothing
+          (refusal_to Told ToldInAll behind_first Here There of_run at_first at_last objects why s);
     }
 
     run_stops : (why : NodeFault) → IsServeRefusal Told Here at_first at_last why
@@ -330,3 +331,57 @@ pub err_both : {T : Type 0} (r : Result T NodeFault) (P Q : NodeFault → Type 0
     → IfErr r (λ why. P why × Q why)
 err_both (Ok x) P Q p q = tt
 err_both (Err why) P Q p q = (p, q)
+
+-- ## A journal that was compacted behind its recovery
+
+-- what a crash leaves of both is what was left before, or leads to the same
+pub compacted_behind : {D : Type 0} (moment : D → ℕ) (left_since : D → ℕ → List ℕ → Type 0) (Before : List ℕ → Type 0)
+    (leads : List ℕ → Option ReplicaState) (found : List ℕ) (n : ReplicaState) (disk recovered compacted : D)
+    → leads found ≡ Some n
+    → LeavesOnly moment left_since disk recovered (IsSameOr Before leads found)
+    → LeavesOnly moment left_since recovered compacted (LeadsToSome leads step [] n)
+    → LeavesOnly moment left_since disk compacted (IsSameOr Before leads found)
+compacted_behind moment left_since Before leads found n disk recovered compacted plays first then = record {
+  later = omega (arith, first.later, then.later);
+  each = λ c left. ⊎_elim (λ was. first.each c was) (λ some. inr (same c some))
+      (then.before (moment disk) c first.later left);
+  before = λ t c le left.
+      ⊎_elim (λ was. first.before t c le was) (λ some. inr (inr (same c some)))
+      (then.before t c (omega (arith, le, first.later)) left);
+}
+  where
+    same : (c : List ℕ) → LeadsToSome leads step [] n c → leads c ≡ leads found
+    same c (k, le, is) = is ∙ ap (λ (l : List CallLine). steps step l n) (nothing_first k) ∙ sym plays
+      where
+        no_calls : List CallLine
+        no_calls = []
+
+        nothing_first : (k : ℕ) → take k no_calls ≡ no_calls
+        nothing_first zero = refl
+        nothing_first (suc k) = refl
+
+-- why it was not compacted, as a start's refusal
+pub not_compacted : {D R W E : Type 0} (f : Facts D R W E) (objects : List (ℕ × Kind)) (options : Options)
+    (disk final : D) (old new : Streams R W E) (failed : Type 0) → RunsNot f options disk final old new
+    → (why : NodeFault) → IsNotCompacted failed why → IsServerStartRefusal f objects options disk final old new why
+not_compacted f objects options disk final old new failed not fault.Memory is = inl not
+not_compacted f objects options disk final old new failed not fault.DiskFault is = inl not
+not_compacted f objects options disk final old new failed not fault.ReadFault is = absurd is
+not_compacted f objects options disk final old new failed not fault.WriteFault is = absurd is
+not_compacted f objects options disk final old new failed not fault.BadConfig is = absurd is
+not_compacted f objects options disk final old new failed not fault.Locked is = absurd is
+not_compacted f objects options disk final old new failed not (fault.BadJournal line) is = absurd is
+not_compacted f objects options disk final old new failed not (fault.OtherOptions option) is = absurd is
+not_compacted f objects options disk final old new failed not (fault.StartFault found) is = absurd is
+
+pub compacting_failed : (before between after : ℕ) → before ≤ between → (why : NodeFault)
+    → IsNotCompacted (between < after) why → IfDisk why (before < after)
+compacting_failed before between after le fault.Memory is = tt
+compacting_failed before between after le fault.DiskFault is = omega (arith, le, is)
+compacting_failed before between after le fault.ReadFault is = absurd is
+compacting_failed before between after le fault.WriteFault is = absurd is
+compacting_failed before between after le fault.BadConfig is = absurd is
+compacting_failed before between after le fault.Locked is = absurd is
+compacting_failed before between after le (fault.BadJournal line) is = absurd is
+compacting_failed before between after le (fault.OtherOptions option) is = absurd is
+compacting_failed before between after le (fault.StartFault found) is = absurd is

@@ -52,11 +52,13 @@ node = with_rule
     (with_rule
     (with_rule
     (with_rule
+    (with_rule
     (with_rule node_named (option (codes "replicas") 1 8 (codes "3")))
     own)
     (option (codes "commits") 0 16 (codes "0")))
     (option (codes "cap") 1 1000000 (codes "1000000")))
     (option (codes "tick") 0 3600 (codes "0")))
+    (option (codes "compact") 0 1000000 (codes "0")))
     votes_option)
     journal_option
 
@@ -73,6 +75,7 @@ pub record AreNodeOptions (rows : List Row) : Type 0 where
   pub commits : IsNumberTaken rows (codes "commits") 0 16
   pub cap : IsNumberTaken rows (codes "cap") 1 1000000
   pub tick : IsNumberTaken rows (codes "tick") 0 3600
+  pub compact : IsNumberTaken rows (codes "compact") 0 1000000
   pub journal : (folder : Text) × (one_of (codes "journal") rows ≡ Some folder)
 
 -- the text is this number
@@ -103,7 +106,7 @@ IsVotes given replicas None = AreNoVotes given
 IsVotes given replicas (Some votes_option) = AreVotes given replicas (votes_of votes_option)
 
 -- the numbers are in their ranges
-pub record AreNodeNumbers (replicas own commits cap tick : ℕ) : Type 0 where
+pub record AreNodeNumbers (replicas own commits cap tick compact : ℕ) : Type 0 where
   pub some_replicas : 1 ≤ replicas
   pub few_replicas : replicas ≤ 8
   pub few_own : own ≤ 7
@@ -111,6 +114,7 @@ pub record AreNodeNumbers (replicas own commits cap tick : ℕ) : Type 0 where
   pub some_cap : 1 ≤ cap
   pub most_cap : cap ≤ 1000000
   pub most_tick : tick ≤ 3600
+  pub most_compact : compact ≤ 1000000
 
 -- the options are those that were given, or their defaults, each in its range
 pub record AreOptions (rows : List Row) (options : Options) : Type 0 where
@@ -119,8 +123,9 @@ pub record AreOptions (rows : List Row) (options : Options) : Type 0 where
   pub commits_given : IsGiven rows (codes "commits") options.config.commits
   pub cap_given : IsGiven rows (codes "cap") options.config.cap
   pub tick_given : IsGiven rows (codes "tick") options.tick
+  pub compact_given : IsGiven rows (codes "compact") options.compact
   pub in_range : AreNodeNumbers options.config.replicas options.own options.config.commits options.config.cap
-      options.tick
+      options.tick options.compact
   pub votes_given : AreVotes (many_of (codes "votes") rows) options.config.replicas (votes_of options.config.votes)
   pub folder_given : first_of (codes "journal") rows ≡ Some (string_bytes options.folder)
 

@@ -1,11 +1,11 @@
 -- A node that plays its journal and then takes lines.
-use Rattle.std.specs.Prelude.{◌≡◌, ◌⊎◌, ℕ, zero, suc, List, [], ◌∷◌, ◌++◌, codes, length, ◌<◌, Option, Some, None, Result, OnOk, IfErr}
+use Rattle.std.specs.Prelude.{◌≡◌, ◌⊎◌, ⊤, ℕ, zero, suc, ◌/◌, nat_lt, nat_le, Bool, true, false, ◌&&◌, List, [], ◌∷◌, ◌++◌, codes, length, ◌<◌, Option, Some, None, Result, OnOk, IfErr}
 use Rattle.std.specs.Fmt.{decimal}
 use Rattle.la_object.specs.declared.kind.Kind.{Kind}
 use Rattle.la_object.specs.Shelves.{ShelfState}
 use Rattle.la_journal.specs.Disk.{LeavesOnly}
 use Rattle.la_journal.specs.Durable.{IsSameOr}
-use Rattle.la_journal.specs.Journal.{lines}
+use Rattle.la_journal.specs.Journal.{lines, journal}
 use Rattle.la_journal.specs.Playing.{rest_in, IsNotPlayed}
 use Rattle.la_journal.specs.Records.{parts}
 use Rattle.la_journal.specs.declared.recovery.Unplayed.{Unplayed}
@@ -16,13 +16,14 @@ use Rattle.la_durable.specs.CallLines.{call_line}
 use Rattle.la_durable.specs.Nodes.{empty_shelf, step}
 use Rattle.la_durable.specs.Restarts.{leads_from}
 use Rattle.la_durable.specs.Heads.{node_head}
-use Rattle.la_durable.specs.NodeStates.{named_node}
+use Rattle.la_durable.specs.NodeStates.{named_node, is_sayable}
 use Rattle.la_durable.specs.Errors.{IsForMemory}
 use Rattle.la_durable.specs.declared.error.NodeError.{NodeError}
 use Rattle.la_io.specs.Streams.{TellsAll}
 use Rattle.la_serve.specs.declared.error.NodeFault.{NodeFault}
 use Rattle.la_serve.specs.declared.error.NodeFault.TheVariants as fault
 use Rattle.la_serve.specs.declared.options.Options.{Options}
+use Rattle.la_serve.specs.declared.compacting.TheConstants.{KIBIBYTE}
 use Rattle.la_serve.specs.Faults.{of_journal, IfDisk}
 use Rattle.la_serve.specs.Io.{Streams, Facts, facts, io_with}
 use Rattle.la_serve.specs.Turns.{ServerState}
@@ -35,37 +36,76 @@ abbrev pub torn_told : (cut : ℕ) → List (List ℕ)
 torn_told zero = []
 torn_told (suc n) = (codes "cut " ++ (decimal (suc n) ++ 10 ∷ [])) ∷ []
 
+-- what is told of a journal that was to be compacted, where no text says its state
+abbrev pub unsaid_told : (unsaid : Bool) → List (List ℕ)
+unsaid_told true = (codes "uncompacted" ++ 10 ∷ []) ∷ []
+unsaid_told false = []
+
 -- that, and then these lines, were told
-abbrev pub TellsOfRun : {D R W E : Type 0} → Facts D R W E → (disk : D) → (old new : Streams R W E) → List (List ℕ)
-    → Type 0
-TellsOfRun f disk old new lines =
-    TellsAll f.heard f.refuses old.errors new.errors (torn_told (length (rest_in (parts (f.seen disk)))) ++ lines)
+abbrev pub TellsOfRun : {D R W E : Type 0} → Facts D R W E → (disk : D) → (unsaid : Bool) → (old new : Streams R W E)
+    → List (List ℕ) → Type 0
+TellsOfRun f disk unsaid old new lines =
+    TellsAll f.heard f.refuses old.errors new.errors
+    (torn_told (length (rest_in (parts (f.seen disk)))) ++ (unsaid_told unsaid ++ lines))
 
 -- a node that was started knows nothing of others
 abbrev pub newly_started : ReplicaState → ServerState
 newly_started n = record { kept = n; known = no_links }
 
+-- ## The lines from which a run goes on
+
+-- a journal of so many bytes is compacted: the option says a size of so many kibibytes or fewer, and not 0
+abbrev pub is_grown : (compact found : ℕ) → Bool
+is_grown compact found = nat_lt 0 compact && nat_le compact (found / KIBIBYTE)
+
+-- they say this state, and no call
+pub record SaysAlone (n : ReplicaState) (lines : List (List ℕ)) : Type 0 where
+  pub text : List ℕ
+  pub names : named_node text ≡ Some n
+  pub alone : journal lines ≡ record { state = Some text; calls = [] }
+
+-- They are those that were found, also where the journal was to be compacted and no text says its state. Else they say
+-- the state alone.
+abbrev pub GoesOnWith : (grown unsaid : Bool) → ReplicaState → (found begins : List (List ℕ)) → Type 0
+GoesOnWith false unsaid n found begins = (unsaid ≡ false) × (begins ≡ found)
+GoesOnWith true true n found begins = (is_sayable n ≡ false) × (begins ≡ found)
+GoesOnWith true false n found begins = (is_sayable n ≡ true) × SaysAlone n begins
+
+-- a journal was to be compacted, and is as it was, or leads to the same: memory ran out, or the disk failed
+abbrev pub IsNotCompacted : (failed : Type 0) → NodeFault → Type 0
+IsNotCompacted failed fault.Memory = ⊤
+IsNotCompacted failed fault.DiskFault = failed
+IsNotCompacted failed _ = ⊥
+
+-- what a run began with: where the journal leads, and the lines from which it goes on
+pub record Begins (options : Options) (found : List ℕ) (before : ReplicaState) (begins : List (List ℕ)) : Type 0 where
+  pub plays : leads_from (at_start options.config options.own) found ≡ Some before
+  pub unsaid : Bool
+  pub goes_on : GoesOnWith (is_grown options.compact (length found)) unsaid before (lines found) begins
+
 -- where the journal leads the lines of an input were taken, all of them
 pub record RunsAll {D R W E : Type 0} (f : Facts D R W E) (objects : List (ℕ × Kind)) (options : Options)
     (disk final : D) (old new : Streams R W E) : Type 0 where
   pub before : ReplicaState
-  pub plays : leads_from (at_start options.config options.own) (f.seen disk) ≡ Some before
+  pub begins : List (List ℕ)
+  pub begun : Begins options (f.seen disk) before begins
   pub journal : List (List ℕ)
   pub now : ServerState
-  pub serves : ServesAll (TellsOfRun f disk old new)
+  pub serves : ServesAll (TellsOfRun f disk begun.unsaid old new)
       (LeftBy f options disk final before old.given new.given)
-      (io_with f old objects (newly_started before) (lines (f.seen disk))) (io_with f new objects now journal)
+      (io_with f old objects (newly_started before) begins) (io_with f new objects now journal)
 
 -- or some of them
 pub record RunsCut {D R W E : Type 0} (f : Facts D R W E) (objects : List (ℕ × Kind)) (options : Options)
     (disk final : D) (old new : Streams R W E) (why : NodeFault) : Type 0 where
   pub before : ReplicaState
-  pub plays : leads_from (at_start options.config options.own) (f.seen disk) ≡ Some before
+  pub begins : List (List ℕ)
+  pub begun : Begins options (f.seen disk) before begins
   pub journal : List (List ℕ)
   pub now : ServerState
-  pub stops : IsServeRefusal (TellsOfRun f disk old new)
+  pub stops : IsServeRefusal (TellsOfRun f disk begun.unsaid old new)
       (LeftBy f options disk final before old.given new.given)
-      (io_with f old objects (newly_started before) (lines (f.seen disk))) (io_with f new objects now journal) why
+      (io_with f old objects (newly_started before) begins) (io_with f new objects now journal) why
 
 -- nothing was read, written or told, and a crash leaves what might have been left before, or what leads to the same
 pub record RunsNot {D R W E : Type 0} (f : Facts D R W E) (options : Options) (disk final : D) (old new : Streams R W

@@ -7,6 +7,7 @@
 
 mod answering;
 mod asking;
+mod compacting;
 mod ended;
 mod error;
 mod keeping;

@@ -26,6 +26,8 @@ pub struct Options {
     pub own: u8,
     /// How many seconds without input until it ticks by itself the first time, at most 3,600; with 0 it never does.
     pub tick: u16,
+    /// How many kibibytes its journal must have for a start to compact it, at most 1,000,000; with 0 none does.
+    pub compact: u32,
     /// The folder of its journal.
     pub folder: String,
 }
@@ -97,7 +99,10 @@ fn node_command<'a>(alloc: Global) -> Result<Command<'a>, AllocError>
     let ticks = value_parser!(u16).range(0..=3600);
     let help = "Seconds without input until it ticks by itself, 0 to 3600; 0 is never";
     let timed = with_number(alloc, capped, "tick", ticks, "0", help)?;
-    let voted = with_votes(alloc, timed)?;
+    let kibibytes = value_parser!(u32).range(0..=1_000_000);
+    let help = "From how many KiB of journal a start compacts it, 0 to 1000000; 0 is never";
+    let compacted = with_number(alloc, timed, "compact", kibibytes, "0", help)?;
+    let voted = with_votes(alloc, compacted)?;
     with_journal(alloc, voted)
 }
 
@@ -148,6 +153,7 @@ fn options_in(alloc: Global, given: &ArgMatches<'_>) -> Result<Option<Options>, 
     let commits = given.get_one::<u8>("commits").unwrap();
     let cap = given.get_one::<u32>("cap").unwrap();
     let tick = given.get_one::<u16>("tick").unwrap();
+    let compact = given.get_one::<u32>("compact").unwrap();
     let folder = given.get_str("journal").unwrap();
     let Some(votes) = votes_in(given, replicas) else {
         return Ok(None);
@@ -163,6 +169,7 @@ fn options_in(alloc: Global, given: &ArgMatches<'_>) -> Result<Option<Options>, 
         config,
         own,
         tick,
+        compact,
         folder,
     }))
 }

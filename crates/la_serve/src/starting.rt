@@ -8,8 +8,9 @@ ghost use Rattle.la_io.specs.Streams.{TellsLine, TellsAll};
 ghost use Rattle.la_serve.specs.Faults.{of_journal, start_fault, space_count, option_at};
 ghost use Rattle.la_serve.specs.Ending.{node_status, end_line, end_detail, no_journal_line, no_journal_short, AreAtStart, ServerEnds};
 ghost use Rattle.la_serve.specs.Io.{io};
-ghost use Rattle.la_serve.specs.Starting.{Starts, torn_told};
+ghost use Rattle.la_serve.specs.Starting.{Starts, torn_told, unsaid_told};
 
+use crate::compacting::{compact_grown, is_grown};
 use crate::names::{cause_name, end_name, option_name};
 use crate::serving::serve;
 use crate::shelf::shelf_of;
@@ -18,7 +19,7 @@ use arrayvec::ArrayString;
 use itoa::Buffer;
 use la_durable::{NodeError, NodeMachine};
 use la_io::{Listener, tell_all};
-use la_journal::{Disk, Machine, Staged, Unplayed, recover};
+use la_journal::{Disk, Durable, Machine, Staged, Unplayed, recover};
 use la_node::{Links, WorldError};
 use la_object::{Counter, MaxRegister, Replicated, Shelf};
 use la_orset::OrSet;
@@ -98,6 +99,15 @@ fn tell_cut<E: Listener>(cut: usize, errors: &mut E)
         line.push_str(Buffer::new().format(cut));
         line.push_str("\n");
         let _ = tell_all(errors, line.as_str().as_bytes());
+    }
+}
+
+// Tells that a journal was to be compacted, and that no text says its state.
+fn tell_unsaid<E: Listener>(unsaid: bool, errors: &mut E)
+    ensures { TellsAll E.contents E.refuses errors.old errors.new (unsaid_told unsaid) }
+{
+    if unsaid {
+        let _ = tell_all(errors, b"uncompacted\n");
     }
 }
 
@@ -207,6 +217,14 @@ fn option_at(spaces: usize, replicas: usize) -> NodeOption
     }
 }
 
+// The disk of a journal that is let go.
+fn disk_of<D: Disk>(durable: Durable<NodeMachine, D>) -> D
+    ensures { result ≡ durable.disk }
+{
+    let Durable { disk, .. } = durable;
+    disk
+}
+
 // The node, until its input ends, and the disk then.
 fn start<R: Read, W: Write + Drop, E: Listener, D: Disk, B: Replicated>(
     alloc: Global,
@@ -231,8 +249,15 @@ fn start<R: Read, W: Write + Drop, E: Listener, D: Disk, B: Replicated>(
     };
     let found_count = found.len();
     match recover(alloc, machine, found, disk) {
-        Ok(durable) => {
-            tell_cut(durable.cut, errors);
+        Ok(mut durable) => {
+            let cut = durable.cut;
+            let grown = is_grown(options.compact, found_count);
+            let unsaid = match compact_grown(alloc, grown, &mut durable) {
+                Ok(unsaid) => unsaid,
+                Err(fault) => return (Err(fault), disk_of(durable)),
+            };
+            tell_cut(cut, errors);
+            tell_unsaid(unsaid, errors);
             let mut server = Server {
                 node: Staged::new(alloc, durable),
                 shelf,
@@ -308,7 +333,8 @@ fn ended<E: Listener, D: Drop>(fault: NodeFault, disk: D, errors: &mut E) -> End
 }
 
 /// The command over any streams and any journal, of which the bytes were found: its exit status, and what became of the disk. Its shelf has a counter
-/// under 1, a max register under 2 and an observed-remove set under 3.
+/// under 1, a max register under 2 and an observed-remove set under 3. A journal that has as many kibibytes as the options
+/// say is compacted first.
 ///
 /// A crash at any moment from when a text was given out leaves a journal that has all calls that were kept up to it
 /// (`keeps` of `Leaves`, in `specs/Crashes`): whoever starts there goes on from what was written

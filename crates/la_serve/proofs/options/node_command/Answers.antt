@@ -31,7 +31,11 @@ returns-clause-app c =
     c.in_ok-timed.ensures.app 0 3600
     (rw (c.value_parser-4.ensures, c.new-5.ensures.start, c.new-5.ensures.end) at c.range-ticks.ensures)
     ∙ ap (λ (a : App). with_rule a (option (codes "tick") 0 3600 (codes "0"))) capped in
-    let voted = c.in_ok-voted.ensures.app ∙ ap (λ (a : App). with_rule a votes_option) timed in
+    let compacted =
+    c.in_ok-compacted.ensures.app 0 1000000
+    (rw (c.value_parser-5.ensures, c.new-6.ensures.start, c.new-6.ensures.end) at c.range-kibibytes.ensures)
+    ∙ ap (λ (a : App). with_rule a (option (codes "compact") 0 1000000 (codes "0"))) timed in
+    let voted = c.in_ok-voted.ensures.app ∙ ap (λ (a : App). with_rule a votes_option) compacted in
     IfOk-weaker c.with_journal.result _ _ (λ made h. h ∙ ap (λ (a : App). with_rule a journal_option) voted)
     c.with_journal.ensures.app
 
@@ -43,4 +47,5 @@ returns-clause-local c =
     let placed = c.in_ok-placed.ensures.local (c.in_ok-sized.ensures.local start) in
     c.with_journal.ensures.local
     (c.in_ok-voted.ensures.local
-    (c.in_ok-timed.ensures.local (c.in_ok-capped.ensures.local (c.in_ok-shared.ensures.local placed))))
+    (c.in_ok-compacted.ensures.local
+    (c.in_ok-timed.ensures.local (c.in_ok-capped.ensures.local (c.in_ok-shared.ensures.local placed)))))

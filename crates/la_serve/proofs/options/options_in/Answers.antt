@@ -36,6 +36,12 @@ unwrap-tick-requires c =
     (found_of c.args.given.now) (codes "tick") 0 3600 c.get_one-5.result c.requires.tick (omega arith)
     c.get_one-5.ensures.value (λ u x g. g.0)
 
+pub unwrap-compact-requires : goal.unwrap-compact-requires
+unwrap-compact-requires c =
+    some_number 32 (λ bs r. ParsesUnsigned 32 10 bs r × ExplainsUnsignedError 10 bs r × HasUnsignedDigitsIfOk bs r)
+    (found_of c.args.given.now) (codes "compact") 0 1000000 c.get_one-6.result c.requires.compact (omega arith)
+    c.get_one-6.ensures.value (λ u x g. g.0)
+
 pub unwrap-folder-requires : goal.unwrap-folder-requires
 unwrap-folder-requires c =
     let found = found_of c.args.given.now in
@@ -86,12 +92,17 @@ returns c =
     taken_is_given 16 (λ bs r. ParsesUnsigned 16 10 bs r × ExplainsUnsignedError 10 bs r × HasUnsignedDigitsIfOk bs r)
     found (codes "tick") 0 3600 c.get_one-5.result c.unwrap-tick.result c.requires.tick (omega arith)
     c.unwrap-tick.ensures c.get_one-5.ensures.none c.get_one-5.ensures.value (λ u x g. g.0) in
+    let compact =
+    taken_is_given 32 (λ bs r. ParsesUnsigned 32 10 bs r × ExplainsUnsignedError 10 bs r × HasUnsignedDigitsIfOk bs r)
+    found (codes "compact") 0 1000000 c.get_one-6.result c.unwrap-compact.result c.requires.compact (omega arith)
+    c.unwrap-compact.ensures c.get_one-6.ensures.none c.get_one-6.ensures.value (λ u x g. g.0) in
     record {
       replicas_given = replicas.0;
       own_given = own.0;
       commits_given = commits.0;
       cap_given = cap.0;
       tick_given = tick.0;
+      compact_given = compact.0;
       in_range = record {
         some_replicas = replicas.1;
         few_replicas = replicas.2;
@@ -100,6 +111,7 @@ returns c =
         some_cap = cap.1;
         most_cap = cap.2;
         most_tick = tick.2;
+        most_compact = compact.2;
       };
       votes_given = c.in-Some.ensures;
       folder_given =

@@ -24,7 +24,7 @@ use Rattle.la_serve.proofs.starting.start.Goals as goal
 
 pub serve-served-requires-clause-takes : goal.serve-served-requires-clause-takes
 serve-served-requires-clause-takes g c κs within = (
-  ap (λ d. d.closed) c.new-in-Ok-recover.ensures.durable ∙ c.in-Ok-recover.ensures.settled.0,
+  ap (λ d. d.closed) c.new-in-Ok-recover.ensures.durable ∙ c.compact_grown.ensures.settled.0,
   subst (λ (v : Histories). IsSubset v c.new-in-Ok-recover.result.durable.machine.node.replica.view)
       (sym c.requires.0)
       (nothing_within c.new-in-Ok-recover.result.durable.machine.node.replica.view),
