@@ -1,5 +1,6 @@
 -- What a crash leaves of the journal, as lines are taken.
-use Rattle.std.proofs.Common.{◌≡◌, inl, ⊎_elim, ℕ, ◌+◌, ◌≤◌, List, [], ◌∷◌, ◌++◌, length, take, refl, sym, ap, subst, ◌∙◌, arith, append-nil, append_assoc, Option, Some}
+use Rattle.std.proofs.Common.{◌≡◌, inl, ⊎_elim, ℕ, ◌+◌, ◌≤◌, List, [], ◌∷◌, ◌++◌, length, take, refl, sym, ap, subst}
+use Rattle.std.proofs.Common.{◌∙◌, arith, append-nil, append_assoc, Option, Some}
 use Rattle.std.proofs.Math.Seq.{take-append-add}
 use Rattle.std.proofs.lemmas.List.{map-append, take_at, take-append-le, length-append, length-map}
 use Rattle.std.proofs.lemmas.Grind.{flat_map-append}
@@ -15,7 +16,8 @@ use Rattle.la_durable.specs.Restarts.{leads_from}
 use Rattle.la_serve.specs.Turns.{Turn}
 use Rattle.la_serve.specs.Serving.{kept_lines}
 use Rattle.la_serve.specs.Giving.{gives}
-use Rattle.la_serve.specs.Crashes.{in_order, AreTextsOf, AreFrontsOf, kept_count, KeepsGiven, Leaves, Commits, CommitsSome}
+use Rattle.la_serve.specs.Crashes.{in_order, AreTextsOf, AreFrontsOf, kept_count, KeepsGiven, Leaves, Commits}
+use Rattle.la_serve.specs.Crashes.{CommitsSome}
 use Rattle.la_serve.proofs.Leading.{Led}
 use Rattle.la_replica.specs.ReplicaState.{ReplicaState}
 

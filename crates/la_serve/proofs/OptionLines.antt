@@ -1,16 +1,20 @@
 -- What the matches of a command line of `lattice node` say of its options.
-use Rattle.std.proofs.Common.{◌≡◌, ◌∙◌, ℕ, List, Option, Some, None, sym, subst, ap, ap₂, true, false, true≢false, refl, codes, [], ◌∷◌, Bool, not, ◌&&◌, ◌||◌, cond, inl, inr, drop, is_some, option_map}
+use Rattle.std.proofs.Common.{◌≡◌, ◌∙◌, ℕ, List, Option, Some, None, sym, subst, ap, ap₂, true, false, true≢false}
+use Rattle.std.proofs.Common.{refl, codes, [], ◌∷◌, Bool, not, ◌&&◌, ◌||◌, cond, inl, inr, drop, is_some, option_map}
 use Rattle.std.specs.Prelude.{slice_get, find, option_and_then}
 use Rattle.std.specs.Borrow.{Bor}
 use Rattle.clap.specs.Values.{read_as}
 use Rattle.std.specs.List.{list_any, slice_index_or}
 use Rattle.std.specs.Option.{IsSome, option_map_or}
 use Rattle.std.specs.Str.{bytes_eq}
-use Rattle.clap.specs.Words.{AddsArg, Text, Row, Rule, fault_of, first_of, is_simple, is_simple_and_free, one_of, subcommand_of}
+use Rattle.clap.specs.Words.{AddsArg, Text, Row, Rule, fault_of, first_of, is_simple, is_simple_and_free, one_of}
+use Rattle.clap.specs.Words.{subcommand_of}
 use Rattle.clap.proofs.OnLiterals.{clap_on_literals}
 use Rattle.clap.specs.Takes.{is_given}
-use Rattle.clap.specs.Walk.{Held, answers_to, finished, has_row, nothing_held, row_text, rows_after, settled, stop_after, walk, walk_from}
-use Rattle.clap.specs.Simple.{App, Shape, argument_words, built, entered, filled, label_of, names_of, new_shape, rows_at}
+use Rattle.clap.specs.Walk.{Held, answers_to, finished, has_row, nothing_held, row_text, rows_after, settled}
+use Rattle.clap.specs.Walk.{stop_after, walk, walk_from}
+use Rattle.clap.specs.Simple.{App, Shape, argument_words, built, entered, filled, label_of, names_of, new_shape}
+use Rattle.clap.specs.Simple.{rows_at}
 use Rattle.clap.specs.Kinds.{check_kinds}
 use Rattle.clap.specs.Faults.{check_fault, defaults_fault, entered_fault, level_fault, settle_fault, walk_fault}
 use Rattle.clap.specs.declared.builder.arg.Arg.{Arg}

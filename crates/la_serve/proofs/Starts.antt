@@ -1,7 +1,7 @@
 -- What a start leads to.
 use Rattle.std.proofs.Common.{◌≡◌, Bool, true, false, ℕ, zero, suc, List, [], ◌++◌, refl, sym, ap, ◌∙◌, arith, ◌⊎◌}
 use Rattle.std.proofs.Common.{length, ◌≤◌, ◌<◌, Option, Some, None, option_map, Result, Ok, Err, OnOk, IfErr, inl}
-use Rattle.std.proofs.Common.{inr, subst, ⊎_elim, ◌∷◌, take}
+use Rattle.std.proofs.Common.{inr, subst, ⊎_elim, take}
 use Rattle.std.proofs.lemmas.Bool.{false≢true}
 use Rattle.std.proofs.lemmas.Option.{none-some}
 use Rattle.std.specs.Io.KnownBytes.{Appends}
@@ -37,11 +37,10 @@ use Rattle.la_node.specs.declared.link.Links.{Links}
 use Rattle.la_node.specs.Links.{no_links}
 use Rattle.la_serve.specs.Io.{Io, Streams, Facts, io_with}
 use Rattle.la_serve.specs.Turns.{Turn}
-use Rattle.la_serve.specs.Serving.{ServesAll, ServesSome, ServesClosed, IsServeRefusal, kept_lines}
+use Rattle.la_serve.specs.Serving.{ServesAll, ServesSome, ServesClosed, IsServeRefusal}
 use Rattle.la_serve.specs.Crashes.{Leaves, LeftBy, at_start}
 use Rattle.la_serve.specs.Starting.{RunsAll, RunsCut, RunsNot, IsServerStartRefusal, TellsOfRun, torn_told, unsaid_told}
-use Rattle.la_serve.specs.Starting.{Begins, IsNotCompacted}
-use Rattle.la_durable.specs.NodeStates.{named_node}
+use Rattle.la_serve.specs.Starting.{Begins, IsNotBegun}
 use Rattle.la_journal.specs.Machine.{LeadsToSome, steps}
 use Rattle.la_replica.specs.ReplicaState.{ReplicaState}
 
@@ -363,7 +362,7 @@ compacted_behind moment left_since Before leads found n disk recovered compacted
 -- why it was not compacted, as a start's refusal
 pub not_compacted : {D R W E : Type 0} (f : Facts D R W E) (objects : List (ℕ × Kind)) (options : Options)
     (disk final : D) (old new : Streams R W E) (failed : Type 0) → RunsNot f options disk final old new
-    → (why : NodeFault) → IsNotCompacted failed why → IsServerStartRefusal f objects options disk final old new why
+    → (why : NodeFault) → IsNotBegun failed why → IsServerStartRefusal f objects options disk final old new why
 not_compacted f objects options disk final old new failed not fault.Memory is = inl not
 not_compacted f objects options disk final old new failed not fault.DiskFault is = inl not
 not_compacted f objects options disk final old new failed not fault.ReadFault is = absurd is
@@ -375,7 +374,7 @@ not_compacted f objects options disk final old new failed not (fault.OtherOption
 not_compacted f objects options disk final old new failed not (fault.StartFault found) is = absurd is
 
 pub compacting_failed : (before between after : ℕ) → before ≤ between → (why : NodeFault)
-    → IsNotCompacted (between < after) why → IfDisk why (before < after)
+    → IsNotBegun (between < after) why → IfDisk why (before < after)
 compacting_failed before between after le fault.Memory is = tt
 compacting_failed before between after le fault.DiskFault is = omega (arith, le, is)
 compacting_failed before between after le fault.ReadFault is = absurd is

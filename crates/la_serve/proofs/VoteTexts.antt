@@ -1,5 +1,6 @@
 -- The votes that a command line gave, text by text.
-use Rattle.std.proofs.Common.{◌≡◌, ◌∙◌, ℕ, suc, ◌+◌, ◌≤◌, ◌<◌, ◌^◌, List, Option, Some, None, Result, Ok, Err, sym, subst, ap, refl, [], ◌∷◌, ◌++◌, length, arith, true, false, true≢false}
+use Rattle.std.proofs.Common.{◌≡◌, ◌∙◌, ℕ, suc, ◌+◌, ◌≤◌, ◌<◌, ◌^◌, List, Option, Some, None, Result, Ok, Err, sym}
+use Rattle.std.proofs.Common.{subst, ap, refl, [], ◌∷◌, ◌++◌, length, arith, true, false, true≢false}
 use Rattle.std.proofs.Math.Seq.{get_or-append_seam}
 use Rattle.std.specs.Prelude.{All, IfOk, IsOk, OnErr, OnOk, ◌↔◌}
 use Rattle.std.specs.Result.{is_err, result_ok}

@@ -7,7 +7,8 @@ use Rattle.la_journal.specs.declared.recovery.Unplayed.TheVariants as journal
 use Rattle.la_durable.specs.declared.error.NodeError.{NodeError}
 use Rattle.la_durable.specs.declared.error.NodeError.TheVariants as node
 use Rattle.la_serve.specs.declared.error.NodeFault.{NodeFault}
-use Rattle.la_serve.specs.declared.error.NodeFault.TheVariants.{ReadFault, Memory, BadJournal, OtherOptions, DiskFault, StartFault}
+use Rattle.la_serve.specs.declared.error.NodeFault.TheVariants.{ReadFault, Memory, BadJournal, OtherOptions}
+use Rattle.la_serve.specs.declared.error.NodeFault.TheVariants.{DiskFault, StartFault}
 use Rattle.la_serve.specs.declared.error.NodeOption.{NodeOption}
 use Rattle.la_serve.specs.declared.error.NodeOption.TheVariants.{Version, Own, Replicas, Votes, Commits, Cap}
 

@@ -1,5 +1,6 @@
 -- What the words of `lattice node` say, the program's name first, by what `clap` makes of them.
-use Rattle.std.specs.Prelude.{◌≡◌, ℕ, ◌≤◌, ⊤, List, [], ◌∷◌, Option, Some, None, true, codes, pos, replicate, string_bytes}
+use Rattle.std.specs.Prelude.{◌≡◌, ℕ, ◌≤◌, ⊤, List, [], ◌∷◌, Option, Some, None, true, codes, pos, replicate}
+use Rattle.std.specs.Prelude.{string_bytes}
 use Rattle.std.specs.Str.Parse.{IsNumeral, without_leading_plus, digits_value}
 use Rattle.clap.specs.Words.{App, Row, Rule, Text, new_app, new_rule, with_rule, with_subcommand}
 use Rattle.clap.specs.Words.{fault_of, first_of, many_of, one_of, subcommand_of}

@@ -1,10 +1,12 @@
 -- A node that plays its journal and then takes lines.
-use Rattle.std.specs.Prelude.{◌≡◌, ◌⊎◌, ⊤, ℕ, zero, suc, ◌/◌, nat_lt, nat_le, Bool, true, false, ◌&&◌, List, [], ◌∷◌, ◌++◌, codes, length, ◌<◌, Option, Some, None, Result, OnOk, IfErr}
+use Rattle.std.specs.Prelude.{◌≡◌, ◌⊎◌, ⊤, ℕ, zero, suc, ◌/◌, nat_lt, nat_le, Bool, true, false, ◌&&◌, List, [], ◌∷◌}
+use Rattle.std.specs.Prelude.{◌++◌, codes, length, ◌<◌, Option, Some, None, Result, OnOk, IfErr}
 use Rattle.std.specs.Fmt.{decimal}
 use Rattle.la_object.specs.declared.kind.Kind.{Kind}
 use Rattle.la_object.specs.Shelves.{ShelfState}
 use Rattle.la_journal.specs.Disk.{LeavesOnly}
-use Rattle.la_journal.specs.Durable.{IsSameOr}
+use Rattle.la_journal.specs.Durable.{IsSameOr, IsSettled}
+use Rattle.la_journal.specs.Machine.{LeadsToSome}
 use Rattle.la_journal.specs.Journal.{lines, journal}
 use Rattle.la_journal.specs.Playing.{rest_in, IsNotPlayed}
 use Rattle.la_journal.specs.Records.{parts}
@@ -72,10 +74,25 @@ GoesOnWith true true n found begins = (is_sayable n ≡ false) × (begins ≡ fo
 GoesOnWith true false n found begins = (is_sayable n ≡ true) × SaysAlone n begins
 
 -- a journal was to be compacted, and is as it was, or leads to the same: memory ran out, or the disk failed
-abbrev pub IsNotCompacted : (failed : Type 0) → NodeFault → Type 0
-IsNotCompacted failed fault.Memory = ⊤
-IsNotCompacted failed fault.DiskFault = failed
-IsNotCompacted failed _ = ⊥
+abbrev pub IsNotBegun : (failed : Type 0) → NodeFault → Type 0
+IsNotBegun failed fault.Memory = ⊤
+IsNotBegun failed fault.DiskFault = failed
+IsNotBegun failed _ = ⊥
+
+-- wherever the journal of the one disk led to this state, all that a crash leaves from there to the other does
+abbrev pub LeavesAlike : {D : Type 0} (seen : D → List ℕ) (moment : D → ℕ) (left_since : D → ℕ → List ℕ → Type 0)
+    → ReplicaState → (old new : D) → Type 0
+LeavesAlike seen moment left_since n old new =
+    (start : ReplicaState) → leads_from start (seen old) ≡ Some n →
+    LeavesOnly moment left_since old new (LeadsToSome (leads_from start) step [] n)
+
+-- a journal that was compacted where it had grown: it is open, and leads to the same state
+pub record Compacts {D : Type 0} (seen : D → List ℕ) (may_leave : D → List ℕ → Type 0) (grown unsaid : Bool)
+    (n : ReplicaState) (old new : D) (closed : Bool) : Type 0 where
+  pub goes_on : GoesOnWith grown unsaid n (lines (seen old)) (lines (seen new))
+  pub unclosed : closed ≡ false
+  pub settled : IsSettled seen may_leave new
+  pub leads : (start : ReplicaState) → leads_from start (seen old) ≡ Some n → leads_from start (seen new) ≡ Some n
 
 -- what a run began with: where the journal leads, and the lines from which it goes on
 pub record Begins (options : Options) (found : List ℕ) (before : ReplicaState) (begins : List (List ℕ)) : Type 0 where

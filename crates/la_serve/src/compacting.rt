@@ -1,13 +1,8 @@
 // A journal that has grown, with its state in its place.
-ghost use Rattle.std.specs.Prelude.{◌≡◌, ◌<◌, ◌≤◌, [], false, Some, IfOk, IfErr, OnOk};
-ghost use Rattle.la_journal.specs.Disk.{LeavesOnly};
+ghost use Rattle.std.specs.Prelude.{◌≡◌, ◌<◌, ◌≤◌, false, IfOk, IfErr};
 ghost use Rattle.la_journal.specs.Durable.{IsSettled};
-ghost use Rattle.la_journal.specs.Journal.{lines};
-ghost use Rattle.la_journal.specs.Machine.{LeadsToSome};
-ghost use Rattle.la_replica.specs.ReplicaState.{ReplicaState};
-ghost use Rattle.la_durable.specs.Nodes.{kept_by, step};
-ghost use Rattle.la_durable.specs.Restarts.{leads_from};
-ghost use Rattle.la_serve.specs.Starting.{is_grown, GoesOnWith, IsNotCompacted};
+ghost use Rattle.la_durable.specs.Nodes.{kept_by};
+ghost use Rattle.la_serve.specs.Starting.{is_grown, Compacts, LeavesAlike, IsNotBegun};
 
 use crate::NodeFault;
 use la_durable::NodeMachine;
@@ -34,18 +29,10 @@ pub fn compact_grown<D: Disk>(
     requires settled { IsSettled D.seen D.may_leave durable.old.disk }
     requires unclosed { durable.old.closed ≡ false }
     ensures machine { durable.new.machine ≡ durable.old.machine }
-    ensures goes_on { IfOk result (λ unsaid. GoesOnWith grown unsaid (kept_by durable.old.machine)
-        (lines (D.seen durable.old.disk)) (lines (D.seen durable.new.disk))) }
-    ensures settled { OnOk result ((durable.new.closed ≡ false) × IsSettled D.seen D.may_leave durable.new.disk) }
-    ensures leads { OnOk result ((start : ReplicaState)
-        → leads_from start (D.seen durable.old.disk) ≡ Some (kept_by durable.old.machine)
-        → leads_from start (D.seen durable.new.disk) ≡ Some (kept_by durable.old.machine)) }
-    ensures any_moment { (start : ReplicaState)
-        → leads_from start (D.seen durable.old.disk) ≡ Some (kept_by durable.old.machine)
-        → LeavesOnly D.moment D.left_since durable.old.disk durable.new.disk
-        (LeadsToSome (leads_from start) step [] (kept_by durable.old.machine)) }
+    ensures ok { IfOk result (λ unsaid. Compacts D.seen D.may_leave grown unsaid (kept_by durable.old.machine) durable.old.disk durable.new.disk durable.new.closed) }
+    ensures any_moment { LeavesAlike D.seen D.moment D.left_since (kept_by durable.old.machine) durable.old.disk durable.new.disk }
     ensures later { D.faults durable.old.disk ≤ D.faults durable.new.disk }
-    ensures cause { IfErr result (IsNotCompacted (D.faults durable.old.disk < D.faults durable.new.disk)) }
+    ensures cause { IfErr result (IsNotBegun (D.faults durable.old.disk < D.faults durable.new.disk)) }
 {
     if !grown {
         return Ok(false);

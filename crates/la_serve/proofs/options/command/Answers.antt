@@ -1,5 +1,6 @@
 use Rattle.std.proofs.Common.{rules, ◌≡◌, ◌∙◌, ap, sym, subst, map, string_bytes, option_map}
-use Rattle.clap.specs.Words.{App, HasKind, app_of, fault_of, found_of, is_simple, is_simple_and_free, rows_of, subcommand_of}
+use Rattle.clap.specs.Words.{App, HasKind, app_of, fault_of, found_of, is_simple, is_simple_and_free, rows_of}
+use Rattle.clap.specs.Words.{subcommand_of}
 use Rattle.la_serve.specs.Options.{lattice_node}
 use Rattle.la_serve.proofs.OptionLines.{lattice_is_free, lattice_is_simple, rows_are_taken, some_entered}
 use Rattle.la_serve.proofs.options.command.Goals as goal

@@ -6,7 +6,8 @@ use Rattle.clap.proofs.WalkLemmas.{typed_values-rows}
 use Rattle.la_proposer.specs.Majority.{votes_of}
 use Rattle.la_proposer.specs.declared.votes.Votes.{Votes}
 use Rattle.la_serve.specs.Options.{AreVotes, IsVotes}
-use Rattle.la_serve.proofs.VoteTexts.{Reads, reads_at_first, reads_end, reads_next, reads_none, reads_too_many, votes_made, where_err, where_ok}
+use Rattle.la_serve.proofs.VoteTexts.{Reads, reads_at_first, reads_end, reads_next, reads_none, reads_too_many}
+use Rattle.la_serve.proofs.VoteTexts.{votes_made, where_err, where_ok}
 use Rattle.la_serve.proofs.options.votes_in.Goals as goal
 
 pub returns-in_default : goal.returns-in_default
