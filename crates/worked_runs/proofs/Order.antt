@@ -12,7 +12,8 @@ use Rattle.la_world.specs.Ballots.{ballots, round, is_open}
 use Rattle.la_world.specs.Counting.{counted_replies, counted}
 use Rattle.la_world.specs.Submissions.{submitted_ops}
 use Rattle.la_world.specs.Views.{seen, trace_view}
-use Rattle.la_world.specs.Playing.{does_submit, counts_reply, opened_after_learning, does_hear, does_answer, does_tell, trace}
+use Rattle.la_world.specs.Playing.{does_submit, counts_reply, opened_after_learning, does_hear, does_answer}
+use Rattle.la_world.specs.Playing.{does_tell, trace}
 use Rattle.la_world.specs.Learnings.{learnt}
 use Rattle.la_world.specs.Promises.{IsSubmittedLater, WasLearnt, next_id}
 use Rattle.worked_runs.specs.RemoveOfALearntAdd.{add, first, second, g, until_learnt, t}

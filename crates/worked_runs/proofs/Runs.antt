@@ -10,7 +10,8 @@ use Rattle.la_world.specs.Ballots.{ballots, round, is_open}
 use Rattle.la_world.specs.Counting.{counted_replies, counted}
 use Rattle.la_world.specs.Submissions.{submitted_ops}
 use Rattle.la_world.specs.Views.{seen, trace_view}
-use Rattle.la_world.specs.Playing.{does_submit, counts_reply, opened_after_learning, does_hear, does_answer, does_tell, answer_of, trace}
+use Rattle.la_world.specs.Playing.{does_submit, counts_reply, opened_after_learning, does_hear, does_answer}
+use Rattle.la_world.specs.Playing.{does_tell, answer_of, trace}
 use Rattle.la_world.specs.Hearing.{reported_set}
 use Rattle.la_set.specs.Counts.{from_counts}
 use Rattle.la_world.specs.Learnings.{learnt, last_learnt_ballot}

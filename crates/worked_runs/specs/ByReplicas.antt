@@ -1,7 +1,8 @@
 -- A group with an adopt-commit object, played by the replicas' own steps: what each replica comes
 -- to keep, and what was sent, is what the trace says. Of groups without such objects the laws on
 -- following say so of every list of events of which none was refused.
-use Rattle.std.specs.Prelude.{◌≡◌, ℕ, List, [], ◌∷◌, ◌++◌, map, reverse, fold, take, slice_get, slice_set, Option, Some, None}
+use Rattle.std.specs.Prelude.{◌≡◌, ℕ, List, [], ◌∷◌, ◌++◌, map, reverse, fold, take, slice_get, slice_set, Option}
+use Rattle.std.specs.Prelude.{Some, None}
 use Rattle.la_set.specs.ObjectOps.{ObjectOp}
 use Rattle.la_set.specs.Histories.{Histories}
 use Rattle.la_commit.specs.Instances.{first_instance}

@@ -1,7 +1,8 @@
 use Rattle.std.proofs.Common.{[], ◌∷◌, ◌++◌, refl, arith}
 use Rattle.la_world.specs.Events.{Submit}
 use Rattle.worked_runs.specs.RemoveOfALearntAdd.{add, removal, first, second, g, until_learnt, more}
-use Rattle.worked_runs.proofs.Order.{first_then, first_now, second_now, removal_later, removal_held, removal_there, removal_shown, stood}
+use Rattle.worked_runs.proofs.Order.{first_then, first_now, second_now, removal_later, removal_held, removal_there}
+use Rattle.worked_runs.proofs.Order.{removal_shown, stood}
 use Rattle.worked_runs.proofs.order_around_a_removal.Goals as goal
 
 pub returns-clause-by_place : goal.returns-clause-by_place
