@@ -11,3 +11,5 @@ mod journaled;
 mod lines;
 #[cfg(test)]
 mod nodes;
+#[cfg(test)]
+mod states;
