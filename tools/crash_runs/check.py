@@ -43,6 +43,9 @@ class Seen:
     names: dict[int, str] = field(default_factory=dict)
     # Submissions of which no answer came before a kill, since the last that was answered, and ever.
     lost: list[str] = field(default_factory=list)
+    # The same of submissions under numbers: these. And how many were answered once more.
+    lost_numbers: set[int] = field(default_factory=set)
+    again: int = 0
     ever_lost: set[str] = field(default_factory=set)
     submitted: dict[int, str] = field(default_factory=dict)
     proposed: set[int] = field(default_factory=set)
@@ -60,6 +63,11 @@ class Seen:
     passed: bool = True
     # What it has to say of faulty lines.
     to_say: deque[str] = field(default_factory=deque)
+
+
+def asked_number(words: list[str]) -> int | None:
+    """The number under which a line submits; none, where it says none."""
+    return int(words[1].partition(".")[2]) if words[0] == "submit" and "." in words[1] else None
 
 
 class Checker:
@@ -118,6 +126,7 @@ class Checker:
         node.line += 1
         node.names[node.line] = name
         mine = words[:2] in ([it, str(own)] for it in ("submit", "decide", "ask"))
+        mine = mine or words[0] == "submit" and words[1].startswith(f"{own}.")
         here = [str(self.group.replicas), str(own)]
         mailed = words[0] in ("offer", "yes", "no", "tell") and words[1:4:2] == here
         if line in FAULTY:
@@ -149,9 +158,11 @@ class Checker:
 
     def take_killed(self, own: int, _line: str) -> None:
         node = self.nodes[own]
-        lost = [" ".join(words[2:]) for _, words in node.awaited if words[0] == "submit"]
-        node.lost += lost
-        node.ever_lost.update(lost)
+        lost = [words for _, words in node.awaited if words[0] == "submit"]
+        node.lost += [" ".join(words[2:]) for words in lost if asked_number(words) is None]
+        for number in sorted(asked_number(words) or 0 for words in lost):
+            node.lost_numbers.update([number] if 0 < number <= self.most(own) + 1 else [])
+        node.ever_lost.update(" ".join(words[2:]) for words in lost)
         node.awaited.clear()
         node.to_say.clear()
         node.exact = node.firm = False
@@ -205,14 +216,29 @@ class Checker:
         raise Malformed(f"answers {word}, and the oldest line without an answer is {awaited[0] if awaited else None}")
 
     def note_submitted(self, own: int, replica: str, number: str) -> None:
-        node, at = self.nodes[own], int(number)
-        content = " ".join(self.answered_line(own, "submit")[2:])
-        next_at = max(node.submitted, default=0) + 1
-        if int(replica) != own or at in node.submitted or not next_at <= at <= next_at + len(node.lost):
-            self.fault("ids", own, f"{replica}.{number} where {next_at} is next and {len(node.lost)} were not answered")
+        node, at, words = self.nodes[own], int(number), self.answered_line(own, "submit")
+        content, asked = " ".join(words[2:]), asked_number(words)
+        if asked not in (None, at):
+            self.fault("numbers", own, f"{' '.join(words)}: {replica}.{number}")
+        if asked in node.submitted:
+            node.again += 1
+            if node.submitted[asked] != content:
+                self.fault("numbers", own, f"{' '.join(words)}: {node.submitted[asked]} before")
+            return
+        next_at, most = max(node.submitted, default=0) + 1, self.most(own) + 1
+        is_due = next_at <= at <= most or asked in node.lost_numbers
+        if int(replica) != own or at in node.submitted or not is_due:
+            self.fault("ids", own, f"{replica}.{number} where {next_at} to {most} is next")
         node.submitted[at] = content
-        node.lost.clear()
+        node.lost_numbers.discard(at)
+        if asked is None:
+            node.lost.clear()
         self.content(0, (own, at, content))
+
+    def most(self, own: int) -> int:
+        """How many submissions a node may have taken."""
+        node = self.nodes[own]
+        return max([*node.submitted, *node.lost_numbers], default=0) + len(node.lost)
 
     def note_proposed(self, own: int, number: str) -> None:
         words = self.answered_line(own, "decide")
@@ -225,15 +251,17 @@ class Checker:
 
     def note_refused(self, own: int, line: str, name: str) -> None:
         node = self.nodes[own]
-        if not 1 <= int(line) <= node.line or name in NEVER:
+        if not 1 <= int(line) <= node.line or name in NEVER and name != "Gap":
             self.fault("refused", own, f"line {line} of {node.line}: {name}")
         if not node.awaited or node.awaited[0][0] != int(line):
             return self.fault("refused", own, f"line {line}, {name}: {len(node.awaited)} without an answer")
         _, words = node.awaited.popleft()
         self.handled(own, int(line))
-        count = max(node.submitted, default=0) + len(node.lost)
+        count, asked = self.most(own), asked_number(words) or 0
         just = {
             "Full": words[0] == "submit" and count >= self.group.cap,
+            "Stale": 0 < asked <= count and node.submitted.get(asked) != " ".join(words[2:]),
+            "Gap": asked > max(node.submitted, default=0) + 1,
             "NoSuchCommit": words[0] == "decide" and int(words[2]) >= self.group.commits,
             "AlreadyProposed": words[0] == "decide" and self.decides[int(words[2]), own] > 1,
             "NoSuchObject": words[0] == "ask" and int(words[2]) not in (COUNTER, REGISTER, SET),

@@ -7,6 +7,7 @@ from collections import Counter
 from pathlib import Path
 
 from .check import Checker, Entry, Group
+from .clients import Client
 from .disks import flipped
 from .lines import FAULTY
 from .nodes import Node, Stuck
@@ -45,6 +46,8 @@ class Run:
             words = [program, *self.options(own), "--journal", str(folder / str(own))]
             self.nodes.append(Node(words, own, folder / str(own), self.note, preload))
         self.work = self.drawn_work()
+        # Of some nodes, whose clients number their submissions.
+        self.clients = {it.own: Client(it.own) for it in self.nodes if self.draw.random() < 0.6}
         self.until = time.monotonic() + SECONDS
 
     def options(self, own: int) -> list[str]:
@@ -86,7 +89,9 @@ class Run:
 
     def drawn_line(self, own: int, what: str) -> str:
         """A line of the workload, for this node."""
-        if what == "submit":
+        if what == "submit" and own in self.clients:
+            what = self.clients[own].new(self.drawn_op())
+        elif what == "submit":
             what = f"submit {own} {self.drawn_op()}"
         elif what == "ask":
             what = f"ask {own} {self.draw.choice((*QUESTIONS, '8 total'))}"
@@ -104,7 +109,7 @@ class Run:
         # What lines of another group say of it is none of this one's.
         far, group = "has 99,99,99 view 99,99,99", self.group.replicas
         elsewhere += [f"yes {group % 8 + 1} {other} {own} 0 1 {far}", f"known {group % 8 + 1} {other} {own} {far}"]
-        elsewhere += [f"ask {other} 1 total", f"known {group} {other} {own} has 0 view 0"]
+        elsewhere += [f"ask {other} 1 total", f"submit {other}.1 1 inc 7", f"known {group} {other} {own} has 0 view 0"]
         elsewhere += self.draw.sample(mail, min(3, len(mail)))
         faulty = [it + self.drawn_name() if it[:3] in ("sub", "tic", "del") else it for it in FAULTY]
         return self.draw.choice((*elsewhere, *faulty))
@@ -125,11 +130,20 @@ class Run:
         return lines
 
     def taken_work(self, own: int, most: int) -> list[str]:
-        """So many lines of the workload that are this node's."""
+        """So many lines of the workload that are this node's, behind what its client sends again."""
         mine = [it for it in self.work if it[0] == own][:most]
         for it in mine:
             self.work.remove(it)
-        return [self.drawn_line(*it) for it in mine]
+        return [*self.sent_again(own), *(self.drawn_line(*it) for it in mine)]
+
+    def sent_again(self, own: int) -> list[str]:
+        """What a client that numbers its submissions sends again."""
+        if own not in self.clients:
+            return []
+        client, answered = self.clients[own], self.checker.nodes[own].submitted
+        lines = client.waiting(answered, self.group.cap)
+        lines += client.strange(self.draw, answered) if self.draw.random() < 0.3 else []
+        return [it + self.drawn_name() for it in lines]
 
     def step(self) -> None:
         """One node is given a few lines, or is killed. What comes to one that is down is lost."""
@@ -192,7 +206,7 @@ class Run:
                 node.start()
             # One goes on until it is refused, where the cap is small.
             times = self.group.cap + 1 if node.own == 1 and self.group.cap < 100 else 1
-            self.post(node.give([f"submit {node.own} 9 mark"] * times))
+            self.post(node.give([*self.sent_again(node.own), *[f"submit {node.own} 9 mark"] * times]))
         for _ in range(ROUNDS):
             while self.pool:
                 own = receiver(self.pool[0])

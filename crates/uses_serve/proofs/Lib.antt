@@ -1,2 +1,3 @@
 mod Served
 mod Together
+mod Answered

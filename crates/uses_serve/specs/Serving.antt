@@ -1,6 +1,7 @@
 -- What lines come to that a node served.
-use Rattle.std.specs.Prelude.{◌≡◌, ℕ, List, ◌++◌, slice_get, slice_set, Contains, Some}
+use Rattle.std.specs.Prelude.{◌≡◌, ⊤, ℕ, List, [], ◌∷◌, ◌++◌, slice_get, slice_set, Contains, Some}
 use Rattle.std.specs.List.{flat_map}
+use Rattle.la_set.specs.ObjectOps.{ObjectOp}
 use Rattle.la_journal.specs.declared.disk.Disk.{Ghosts}
 use Rattle.la_journal.specs.Giving.{GivenAt}
 use Rattle.la_journal.specs.Lines.{file_of}
@@ -11,6 +12,10 @@ use Rattle.la_durable.specs.Restarts.{leads_from}
 use Rattle.la_replica.specs.ReplicaState.{ReplicaState}
 use Rattle.la_serve.specs.declared.server.Server.{Server}
 use Rattle.la_serve.specs.Io.{server_state}
+use Rattle.la_wire.specs.Notes.{submitted_note}
+use Rattle.la_wire.specs.Requests.{name_in, asked_number}
+use Rattle.la_serve.specs.Numbered.{submission_under}
+use Rattle.la_serve.specs.Once.{AsksUnder}
 use Rattle.la_serve.specs.Turns.{Turn, ServerState}
 use Rattle.la_serve.specs.Processes.{AreProcesses, IsHandedLine}
 use Rattle.la_node.specs.declared.link.Letter.{Letter}
@@ -66,3 +71,22 @@ pub record IsServedForGood {D B : Type 0} {g : Ghosts D} (seen : D → List ℕ)
   pub goes_on : (start : ReplicaState)
       → leads_from start (seen before.node.durable.disk) ≡ Some (kept_by before.node.durable.machine)
       → GoesOn (left_since after.node.durable.disk) start before.shelf.objects calls (server_state before) groups given
+
+-- where a line was answered as submitted under its number, what it asks stands under that for this node
+abbrev pub StandsIfAnswered : (own : ℕ) → (after : ServerState) → Turn → Type 0
+StandsIfAnswered own after t =
+    (number : ℕ) (more : List ℕ) → asked_number t.line ≡ Some number →
+    t.text ≡ submitted_note own number (name_in t.line) ++ more →
+    (d : ObjectOp) × AsksUnder own t.line number d × (submission_under after.kept number ≡ Some d)
+
+abbrev pub AnswersStand : (own : ℕ) → (after : ServerState) → List Turn → Type 0
+AnswersStand own after [] = ⊤
+AnswersStand own after (t ∷ turns) = StandsIfAnswered own after t × AnswersStand own after turns
+
+-- so of all lines that were served; and what stood under a number before stands there, too
+pub record IsServedOnce {D B : Type 0} {g : Ghosts D} (seen : D → List ℕ) (before after : Server D B g)
+    (batch text : List ℕ) : Type 0 where
+  pub served : IsServed seen before after batch text
+  pub answered : AnswersStand (server_state before).kept.own (server_state after) served.turns
+  pub stays : (number : ℕ) (d : ObjectOp) → submission_under (server_state before).kept number ≡ Some d
+      → submission_under (server_state after).kept number ≡ Some d

@@ -2,7 +2,7 @@
 ghost use Rattle.std.specs.Prelude.{◌≡◌, [], IfOk};
 ghost use Rattle.la_journal.specs.Durable.{IsSettled};
 ghost use Rattle.la_serve.specs.Io.{TakesLines};
-ghost use Rattle.uses_serve.specs.Serving.{IsServed, IsServedTogether, IsServedForGood};
+ghost use Rattle.uses_serve.specs.Serving.{IsServed, IsServedTogether, IsServedOnce, IsServedForGood};
 
 use la_journal::Disk;
 use la_object::Replicated;
@@ -39,6 +39,23 @@ pub fn serve_together<D: Disk, B: Replicated>(
     ensures { IfOk result (λ text. IsServedTogether D.seen server.old server.new batch.now text.items) }
 {
     laws::processes_stay_together();
+    serve_batch(alloc, server, batch)
+}
+
+/// Serves lines that were gathered, whose submissions may have numbers: what one asks that is answered as submitted stands
+/// under its number then, and stays there over whatever is served later.
+pub fn serve_once<D: Disk, B: Replicated>(
+    alloc: Global,
+    server: &mut Server<D, B>,
+    batch: &[u8],
+) -> Result<Vec<u8>, NodeFault>
+    requires settled { IsSettled D.seen D.may_leave server.old.node.durable.disk }
+    requires takes { TakesLines server.old }
+    requires unstaged { server.old.node.text.items ≡ [] }
+    ensures { IfOk result (λ text. IsServedOnce D.seen server.old server.new batch.now text.items) }
+{
+    laws::numbers_count_once();
+    laws::nodes_may_go_on(&server.node.durable.machine);
     serve_batch(alloc, server, batch)
 }
 

@@ -1,0 +1,33 @@
+"""Clients that number their submissions."""
+from __future__ import annotations
+
+import random
+from dataclasses import dataclass, field
+
+
+@dataclass
+class Client:
+    """The client of one node: what it has sent, by number from 1. It sends each again until it is answered, in order,
+    and some once more. What it knows of its node is what has been answered, by number."""
+
+    own: int
+    sent: list[str] = field(default_factory=list)
+
+    def line(self, number: int, content: str) -> str:
+        return f"submit {self.own}.{number} {content}"
+
+    def new(self, content: str) -> str:
+        self.sent.append(content)
+        return self.line(len(self.sent), content)
+
+    def waiting(self, answered: dict[int, str], cap: int) -> list[str]:
+        """Once more what has no answer yet, and is not over the cap."""
+        found = list(enumerate(self.sent, 1))[:cap]
+        return [self.line(*it) for it in found if it[0] not in answered]
+
+    def strange(self, draw: random.Random, answered: dict[int, str]) -> list[str]:
+        """What was answered once more, or its number with something else; or a number that is too large."""
+        if answered and draw.random() < 0.9:
+            number = draw.choice([*answered])
+            return [self.line(number, draw.choice((answered[number], answered[number], "1 inc 77")))]
+        return [self.line(len(self.sent) + draw.randint(20, 99), "1 inc 77")]
