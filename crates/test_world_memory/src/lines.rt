@@ -1,6 +1,6 @@
 // la_wire: calls as lines.
 use crate::holds::holds;
-use la_wire::{Call, LineError, named, put_letter, read, read_bounded, write};
+use la_wire::{Call, LineError, named, numbered_in, put_letter, read, read_bounded, write};
 use std::alloc::Global;
 use test_memory::{Came, again, refused};
 
@@ -61,6 +61,37 @@ fn puts_again(alloc: Global, text: &str) -> Came {
     again!(alloc, puts(alloc, &call, text))
 }
 
+// A line under a number, with that and the line without it; number 0, and no line, where it has none.
+const NUMBERED: [(&str, u32, &str); 6] = [
+    (
+        "submit 7.1000000 3 remove 0.1",
+        1_000_000,
+        "submit 7 3 remove 0.1",
+    ),
+    ("submit 0.1", 1, "submit 0 "),
+    ("submit 0 1 inc 5", 0, ""),
+    ("submit 0.0 1 inc 5", 0, ""),
+    ("submit 0.4294967296 1 inc 5", 0, ""),
+    ("ask 0.1 1 total", 0, ""),
+];
+
+fn parts(alloc: Global, line: &str, number: u32, plain: &str) -> Came {
+    match numbered_in(alloc, line.as_bytes()) {
+        Ok(Some(it)) => Some(it.number == number && it.plain.as_slice() == plain.as_bytes()),
+        Ok(None) => Some(number == 0),
+        Err(_) => None,
+    }
+}
+
+fn parts_all(alloc: Global) -> Came {
+    for (line, number, plain) in NUMBERED {
+        if !again!(alloc, parts(alloc, line, number, plain))? {
+            return Some(false);
+        }
+    }
+    Some(true)
+}
+
 fn scenes_of(alloc: Global, text: &str) -> Came {
     Some(
         again!(alloc, reads(alloc, text))?
@@ -72,7 +103,12 @@ fn scenes_of(alloc: Global, text: &str) -> Came {
 
 fn scenes(alloc: Global) -> Came {
     let [first, second, third] = LINES;
-    Some(scenes_of(alloc, first)? && scenes_of(alloc, second)? && scenes_of(alloc, third)?)
+    Some(
+        scenes_of(alloc, first)?
+            && scenes_of(alloc, second)?
+            && scenes_of(alloc, third)?
+            && parts_all(alloc)?,
+    )
 }
 
 #[test]

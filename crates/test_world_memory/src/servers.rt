@@ -24,8 +24,8 @@ use test_memory::{Came, again, refused, second};
 // ## Lines that are served
 
 // What a journal has, a line, what is kept of that, and what is written of it: also where the journal has gained it
-// once already, and nothing was written; where then nothing is written, it is not kept again. An empty file is a new
-// journal.
+// once already, and nothing was written; where its number is said, or nothing is written, it is not kept again. An empty
+// file is a new journal.
 struct Row {
     journal: &'static str,
     line: &'static str,
@@ -34,13 +34,20 @@ struct Row {
     later: &'static str,
 }
 
-const ROWS: [Row; 8] = [
+const ROWS: [Row; 13] = [
     Row {
         journal: "",
         line: "submit 0 3 put 7 @a.1\n",
         kept: "submit 0 3 put 7\n",
         text: "# r0 submitted 0.1 @a.1\noffer 1 0 0 0 1 has 0 view 0 base 0;0.1 3 put 7\n",
         later: "# r0 submitted 0.2 @a.1\n",
+    },
+    Row {
+        journal: "",
+        line: "submit 0.1 3 put 7 @a.1\n",
+        kept: "submit 0 3 put 7\n",
+        text: "# r0 submitted 0.1 @a.1\noffer 1 0 0 0 1 has 0 view 0 base 0;0.1 3 put 7\n",
+        later: "# r0 submitted 0.1 @a.1\n",
     },
     Row {
         journal: "lattice 2 replica 0 of 1 votes 1 commits 0 cap 10 362792422aa91c16\nsubmit 0 3 put 7\n\
@@ -94,6 +101,35 @@ const ROWS: [Row; 8] = [
         line: "known 1 0 0 has 1 view 1\n",
         kept: "",
         text: "",
+        later: "",
+    },
+    // a submission under a number that another update has, or that is not the next; and one that was done
+    Row {
+        journal: ROUND,
+        line: "submit 0.1 3 put 7 @a.1\n",
+        kept: "",
+        text: "# r0 submitted 0.1 @a.1\n",
+        later: "",
+    },
+    Row {
+        journal: ROUND,
+        line: "submit 0.1 3 put 8\n",
+        kept: "",
+        text: "# r0 refused 1 Stale\n",
+        later: "",
+    },
+    Row {
+        journal: ROUND,
+        line: "submit 0.1 4 put 7\n",
+        kept: "",
+        text: "# r0 refused 1 Stale\n",
+        later: "",
+    },
+    Row {
+        journal: ROUND,
+        line: "submit 0.3 3 put 7\n",
+        kept: "",
+        text: "# r0 refused 1 Gap\n",
         later: "",
     },
 ];
@@ -253,11 +289,8 @@ fn came_of(kept: &str, served: Served, before: &[u8], after: &[u8]) -> Came {
 fn serves_again(alloc: Global, row: &Row, journal: &[u8]) -> Came {
     let is_first = journal == begun(row.journal);
     let text = if is_first { row.text } else { row.later };
-    let kept = if is_first || !row.later.is_empty() {
-        row.kept
-    } else {
-        ""
-    };
+    let is_plain = row.later.starts_with("# r0 submitted 0.2");
+    let kept = if is_first || is_plain { row.kept } else { "" };
     let mut server = start(alloc, journal)?;
     let served = serve_line(alloc, &mut server, row.line, text);
     came_of(kept, served, journal, server.node.durable.disk.bytes())
