@@ -17,6 +17,8 @@ mod scripts;
 #[cfg(test)]
 mod servers;
 #[cfg(test)]
+mod states;
+#[cfg(test)]
 mod streams;
 #[cfg(test)]
 mod texts;

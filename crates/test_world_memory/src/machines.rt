@@ -1,7 +1,7 @@
 // la_durable: a node of a group of one, as a machine.
 use crate::holds::holds;
 use la_durable::{Input, NodeError, NodeMachine};
-use la_journal::Machine;
+use la_journal::{Machine, Snapshot};
 use la_node::{Config, WorldError};
 use la_proposer::Votes;
 use la_wire::LineError;
@@ -23,6 +23,11 @@ const ROUND: [(&str, usize, usize); 4] = [
         2,
     ),
 ];
+
+// And its state then.
+const STATE: &str = "state 0 view 2 votes 1\
+|cap 10 has 1 ballot 1 1 shut mine 1 reported 1 0 0 0 0 0 0 0 learnt 1 1\
+;0.1 3 remove 0.1 0.2 0.3;0.2 3 remove 0.1 0.2 0.3";
 
 fn machine(alloc: Global) -> Result<NodeMachine, WorldError> {
     let config = Config {
@@ -91,6 +96,21 @@ fn applies(machine: &mut NodeMachine, input: &Input, sent: usize, view: usize) -
     }
 }
 
+fn writes_state(alloc: Global, machine: &NodeMachine) -> Came {
+    match machine.write_state(alloc) {
+        Ok(Some(text)) => Some(text.as_slice() == STATE.as_bytes()),
+        Ok(None) => Some(false),
+        Err(_) => None,
+    }
+}
+
+fn reads_state(alloc: Global, machine: &mut NodeMachine) -> Came {
+    match machine.read_state(alloc, STATE.as_bytes()) {
+        Ok(taken) => Some(taken && machine.node.view().len() == 2),
+        Err(_) => None,
+    }
+}
+
 fn step(
     alloc: Global,
     first: &mut NodeMachine,
@@ -118,7 +138,12 @@ fn scenes(alloc: Global) -> Came {
             return came;
         }
     }
-    Some(again!(alloc, makes(alloc))? && again!(alloc, heads(alloc, &first))?)
+    Some(
+        again!(alloc, makes(alloc))?
+            && again!(alloc, heads(alloc, &first))?
+            && again!(alloc, writes_state(alloc, &first))?
+            && again!(alloc, reads_state(alloc, &mut other))?,
+    )
 }
 
 #[test]

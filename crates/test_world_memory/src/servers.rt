@@ -367,6 +367,7 @@ fn runs(alloc: Global) -> Came {
         config: alone(),
         own: 0,
         tick: 0,
+        compact: 0,
         folder: String::new(alloc),
     };
     let disk = disk_of(alloc, ROUND.as_bytes())?;
