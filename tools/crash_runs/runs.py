@@ -36,7 +36,7 @@ class Run:
     def __init__(self, program: str, seed: int, nodes: int | None, folder: Path, preload: dict[str, str]) -> None:
         self.draw = random.Random(seed)
         self.group = drawn_group(self.draw, nodes)
-        self.compact = self.draw.choice((0, 1))
+        self.compact = seed % 2
         self.checker, self.log = Checker(self.group), []
         self.pool: list[str] = []
         self.figures: Counter[str] = Counter()
