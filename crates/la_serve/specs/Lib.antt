@@ -2,8 +2,10 @@ pub mod Names
 pub mod Options
 pub mod Faults
 pub mod Numbered
-pub mod Turns
+pub mod Heard
 pub mod Said
+pub mod Takes
+pub mod Turns
 pub mod Io
 pub mod Asking
 pub mod Giving

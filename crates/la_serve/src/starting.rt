@@ -23,6 +23,7 @@ use la_journal::{Disk, Durable, Machine, Staged, Unplayed, recover};
 use la_node::{Links, WorldError};
 use la_object::{Counter, MaxRegister, Replicated, Shelf};
 use la_orset::OrSet;
+use la_wire::Tally;
 use std::alloc::{AllocError, Global};
 use std::io::{ErrorKind, Read, Write};
 
@@ -262,6 +263,7 @@ fn start<R: Read, W: Write + Drop, E: Listener, D: Disk, B: Replicated>(
                 node: Staged::new(alloc, durable),
                 shelf,
                 links: Links::new(),
+                tally: Tally::none(),
             };
             let served = serve(alloc, &mut server, input, out, errors);
             (served, server.into_disk())

@@ -271,6 +271,12 @@ plain_says word rest c says =
     by_form words c (form_of Two (spelling keyword.Submit ∷ words)) refl
     (sym (said_by_words (submission_line word rest) refl words refl) ∙ says)
 
+-- so is what is written of a submission
+pub written_submits : (replica object : ℕ) (does : Op) (c : WireCall)
+    → named_call (call_line_text (Submit replica object does)) ≡ Some c → IsSubmission c
+written_submits replica object does c says =
+    plain_says (decimal replica) (joined_by 32 (decimal object ∷ op_words does)) c says
+
 made_plain : (word rest : List ℕ) (o : Option UpdateId) (n : NumberedLine) (c : WireCall)
     → option_map (λ (id : UpdateId). record { number = id.number; plain = submission_line word rest }) o ≡ Some n
     → named_call n.plain ≡ Some c → IsSubmission c

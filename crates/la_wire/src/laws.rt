@@ -55,7 +55,8 @@ pub fn requests_are_read_apart()
 {}
 
 /// A submission that was written under a number is read as that number and the plain line of its call. A line that says
-/// a call has no number, so that none is taken for another; and what is called for under a number is a submission.
+/// a call has no number, so that none is taken for another; and what is called for under a number is a submission, as is
+/// what is written of one.
 pub fn numbers_are_read_apart()
     ensures numbered { (id : UpdateId) (object : ℕ) (op : Op) → IsId id
         → numbered_in (numbered_submission id object op)
@@ -63,6 +64,8 @@ pub fn numbers_are_read_apart()
     ensures plain { (line : List ℕ) (c : WireCall) → named_call line ≡ Some c → numbered_in line ≡ None }
     ensures submits { (line : List ℕ) (n : NumberedLine) (c : WireCall) → numbered_in line ≡ Some n
         → named_call n.plain ≡ Some c → IsSubmission c }
+    ensures written { (replica object : ℕ) (op : Op) (c : WireCall)
+        → named_call (call_line_text (Submit replica object op)) ≡ Some c → IsSubmission c }
 {}
 
 /// Whether a call can be had is a test.
