@@ -3,10 +3,6 @@ use Rattle.std.specs.Prelude.{◌≡◌, ◌⊎◌, ℕ, ◌<◌, List, [], ◌�
 use Rattle.std.specs.Fmt.{decimal}
 use Rattle.std.specs.declared.io.ErrorKind.{ErrorKind}
 use Rattle.std.specs.declared.io.ErrorKind.TheVariants as kind
-use Rattle.la_object.specs.declared.kind.Kind.{Kind}
-use Rattle.la_object.specs.declared.kind.Kind.TheVariants.{Counter, MaxRegister, OrSet}
-use Rattle.la_object.specs.declared.state.State.{State}
-use Rattle.la_object.specs.Objects.{start}
 use Rattle.la_io.specs.Streams.{TellsLine}
 use Rattle.la_serve.specs.declared.error.NodeFault.{NodeFault}
 use Rattle.la_serve.specs.declared.error.NodeFault.TheVariants as fault
@@ -17,15 +13,6 @@ use Rattle.la_serve.specs.declared.options.Options.{Options}
 use Rattle.la_serve.specs.Faults.{IfDisk}
 use Rattle.la_serve.specs.Io.{Streams, Facts, facts}
 use Rattle.la_serve.specs.Starting.{RunsAll, IsServerStartRefusal}
-
--- the objects on a node's shelf
-abbrev pub node_objects : List (ℕ × Kind)
-node_objects = (1, Counter) ∷ (2, MaxRegister) ∷ (3, OrSet) ∷ []
-
--- objects of those kinds, in their start states
-abbrev pub AreAtStart : {B : Type 0} (state : B → State) (counter register set : B) → Type 0
-AreAtStart state counter register set =
-    (state counter ≡ start Counter) × (state register ≡ start MaxRegister) × (state set ≡ start OrSet)
 
 -- the exit status after a fault
 abbrev pub node_status : NodeFault → ℕ
@@ -97,7 +84,7 @@ pub record ServerEndsWell {D R W E : Type 0} (f : Facts D R W E) (options : Opti
     (old new : Streams R W E)
     (status : ℕ) : Type 0 where
   pub well : status ≡ 0
-  pub runs : RunsAll f node_objects options disk final old new
+  pub runs : RunsAll f options.objects options disk final old new
 
 -- or ended by a fault, which is told last
 pub record EndsBadly {D R W E : Type 0} (f : Facts D R W E) (faults : D → ℕ) (options : Options) (disk final : D)
@@ -105,7 +92,7 @@ pub record EndsBadly {D R W E : Type 0} (f : Facts D R W E) (faults : D → ℕ)
   pub why : NodeFault
   pub is : status ≡ node_status why
   pub between : E
-  pub stops : IsServerStartRefusal f node_objects options disk final old (record new { errors = between }) why
+  pub stops : IsServerStartRefusal f options.objects options disk final old (record new { errors = between }) why
   -- a fault of the disk comes only where it failed
   pub failed : IfDisk why (faults disk < faults final)
   pub told : TellsLine f.heard f.refuses between new.errors (end_line why)

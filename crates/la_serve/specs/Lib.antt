@@ -1,4 +1,5 @@
 pub mod Names
+pub mod Objects
 pub mod Options
 pub mod Faults
 pub mod Numbered

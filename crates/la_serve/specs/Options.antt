@@ -1,14 +1,17 @@
 -- What the words of `lattice node` say, the program's name first, by what `clap` makes of them.
-use Rattle.std.specs.Prelude.{◌≡◌, ℕ, ◌≤◌, ⊤, List, [], ◌∷◌, Option, Some, None, true, codes, pos, replicate}
+use Rattle.std.specs.Prelude.{◌≡◌, ◌⊎◌, ℕ, ◌≤◌, ⊤, List, [], ◌∷◌, Option, Some, None, true, codes, pos, replicate}
 use Rattle.std.specs.Prelude.{string_bytes}
+use Rattle.std.specs.Option.{option_and_then}
 use Rattle.std.specs.Str.Parse.{IsNumeral, without_leading_plus, digits_value}
 use Rattle.clap.specs.Words.{App, Row, Rule, Text, new_app, new_rule, with_rule, with_subcommand}
 use Rattle.clap.specs.Words.{fault_of, first_of, many_of, one_of, subcommand_of}
 use Rattle.clap.specs.declared.builder.value_parser.ValueParser.TheVariants.{Signed}
 use Rattle.la_cli.specs.Calls.{IsGiven, IsNumberTaken, lattice_alone, option}
+use Rattle.la_object.specs.declared.kind.Kind.{Kind}
 use Rattle.la_proposer.specs.Majority.{IsGroup, votes_of}
 use Rattle.la_proposer.specs.declared.votes.Votes.{Votes}
 use Rattle.la_serve.specs.declared.options.Options.{Options}
+use Rattle.la_serve.specs.Objects.{objects_in}
 
 -- ## The command line
 
@@ -23,6 +26,14 @@ number_option name least most = record (new_rule name) {
 -- which replica it is, which must be said
 abbrev pub own : Rule
 own = record (number_option (codes "own") 0 7) { required = true }
+
+-- the objects of its shelf, and those that it has where none are said
+abbrev pub objects_option : Rule
+objects_option = record (new_rule (codes "objects")) {
+  long = Some (codes "objects");
+  value_names = 1;
+  defaults = codes "1=counter,2=max,3=set" ∷ [];
+}
 
 -- 1 to 8 numbers in one use
 abbrev pub votes_option : Rule
@@ -54,12 +65,14 @@ node = with_rule
     (with_rule
     (with_rule
     (with_rule
+    (with_rule
     (with_rule node_named (option (codes "replicas") 1 8 (codes "3")))
     own)
     (option (codes "commits") 0 16 (codes "0")))
     (option (codes "cap") 1 1000000 (codes "1000000")))
     (option (codes "tick") 0 3600 (codes "0")))
     (option (codes "compact") 0 1000000 (codes "0")))
+    objects_option)
     votes_option)
     journal_option
 
@@ -69,7 +82,7 @@ lattice_node = with_subcommand lattice_alone node.top
 
 -- ## What it says
 
--- a text in its range stands for each number, and there is one for the folder
+-- a text in its range stands for each number, and there are one for the objects and one for the folder
 pub record AreNodeOptions (rows : List Row) : Type 0 where
   pub replicas : IsNumberTaken rows (codes "replicas") 1 8
   pub own : IsNumberTaken rows (codes "own") 0 7
@@ -77,6 +90,7 @@ pub record AreNodeOptions (rows : List Row) : Type 0 where
   pub cap : IsNumberTaken rows (codes "cap") 1 1000000
   pub tick : IsNumberTaken rows (codes "tick") 0 3600
   pub compact : IsNumberTaken rows (codes "compact") 0 1000000
+  pub objects : (text : Text) × (one_of (codes "objects") rows ≡ Some text)
   pub journal : (folder : Text) × (one_of (codes "journal") rows ≡ Some folder)
 
 -- the text is this number
@@ -106,6 +120,10 @@ abbrev pub IsVotes : (given : Option (List Text)) → (replicas : ℕ) → Optio
 IsVotes given replicas None = AreNoVotes given
 IsVotes given replicas (Some votes_option) = AreVotes given replicas (votes_of votes_option)
 
+-- the objects that were given
+abbrev pub given_objects : List Row → Option (List (ℕ × Kind))
+given_objects rows = option_and_then objects_in (first_of (codes "objects") rows)
+
 -- the numbers are in their ranges
 pub record AreNodeNumbers (replicas own commits cap tick compact : ℕ) : Type 0 where
   pub some_replicas : 1 ≤ replicas
@@ -128,11 +146,12 @@ pub record AreOptions (rows : List Row) (options : Options) : Type 0 where
   pub in_range : AreNodeNumbers options.config.replicas options.own options.config.commits options.config.cap
       options.tick options.compact
   pub votes_given : AreVotes (many_of (codes "votes") rows) options.config.replicas (votes_of options.config.votes)
+  pub objects_given : given_objects rows ≡ Some options.objects
   pub folder_given : first_of (codes "journal") rows ≡ Some (string_bytes options.folder)
 
--- the same, or there are none, and the votes are those of no group
+-- the same, or there are none, and the votes are those of no group, or no objects are said
 abbrev pub SaysOptions : (rows : List Row) → Option Options → Type 0
-SaysOptions rows None = AreNoVotes (many_of (codes "votes") rows)
+SaysOptions rows None = AreNoVotes (many_of (codes "votes") rows) ⊎ (given_objects rows ≡ None)
 SaysOptions rows (Some options) = AreOptions rows options
 
 -- nothing is wrong with the words, and they name a node, of which they say this

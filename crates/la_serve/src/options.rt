@@ -7,8 +7,10 @@ ghost use Rattle.clap.specs.declared.builder.value_parser.ValueParser.TheVariant
 ghost use Rattle.la_cli.specs.Calls.{lattice_alone};
 ghost use Rattle.la_serve.specs.Options.{number_option as number_rule, own as own_rule, votes_option as votes_rule};
 ghost use Rattle.la_serve.specs.Options.{journal_option as journal_rule, node, node_named, lattice_node};
+ghost use Rattle.la_serve.specs.Options.{objects_option as objects_rule, given_objects};
 ghost use Rattle.la_serve.specs.Options.{AreNodeOptions, IsSaid, IsVotes, SaysOptions};
 
+use crate::Objects;
 use arrayvec::ArrayVec;
 use clap::builder::ValueParser;
 use clap::{Arg, ArgMatches, Command, Error, value_parser};
@@ -28,6 +30,8 @@ pub struct Options {
     pub tick: u16,
     /// How many kibibytes its journal must have for a start to compact it, at most 1,000,000; with 0 none does.
     pub compact: u32,
+    /// The objects of its shelf.
+    pub objects: Objects,
     /// The folder of its journal.
     pub folder: String,
 }
@@ -66,6 +70,21 @@ fn with_votes<'a>(alloc: Global, command: Command<'a>) -> Result<Command<'a>, Al
     command.arg(votes.num_args(1..=8))
 }
 
+fn with_objects<'a>(alloc: Global, command: Command<'a>) -> Result<Command<'a>, AllocError>
+    ensures app { IfOk result (λ made. app_of made ≡ with_rule (app_of command.entry) objects_rule) }
+    ensures local { (fields_of command.entry).has_globals ≡ false
+        → IfOk result (λ made. (fields_of made).has_globals ≡ false) }
+{
+    let help =
+        "The objects on its shelf, NUMBER=KIND with commas between; KIND is counter, max or set";
+    let objects = Arg::new(alloc, "objects")
+        .long("objects")
+        .value_name("LIST")
+        .default_value("1=counter,2=max,3=set")
+        .help(help);
+    command.arg(objects)
+}
+
 fn with_journal<'a>(alloc: Global, command: Command<'a>) -> Result<Command<'a>, AllocError>
     ensures app { IfOk result (λ made. app_of made ≡ with_rule (app_of command.entry) journal_rule) }
     ensures local { (fields_of command.entry).has_globals ≡ false
@@ -102,7 +121,8 @@ fn node_command<'a>(alloc: Global) -> Result<Command<'a>, AllocError>
     let kibibytes = value_parser!(u32).range(0..=1_000_000);
     let help = "From how many KiB of journal a start compacts it, 0 to 1000000; 0 is never";
     let compacted = with_number(alloc, timed, "compact", kibibytes, "0", help)?;
-    let voted = with_votes(alloc, compacted)?;
+    let shelved = with_objects(alloc, compacted)?;
+    let voted = with_votes(alloc, shelved)?;
     with_journal(alloc, voted)
 }
 
@@ -143,6 +163,13 @@ fn votes_in(given: &ArgMatches<'_>, replicas: u8) -> Option<Votes>
     Votes::new(votes.as_slice()).ok()
 }
 
+// The objects that were given, where the text says some.
+fn objects_in(given: &ArgMatches<'_>) -> Option<Objects>
+    ensures { result ≡ given_objects (rows_of (found_of given.now)) }
+{
+    Objects::read(given.get_str("objects")?)
+}
+
 // The options, each number of which is there and in its range.
 fn options_in(alloc: Global, given: &ArgMatches<'_>) -> Result<Option<Options>, AllocError>
     requires { AreNodeOptions (rows_of (found_of given.now)) }
@@ -158,6 +185,9 @@ fn options_in(alloc: Global, given: &ArgMatches<'_>) -> Result<Option<Options>, 
     let Some(votes) = votes_in(given, replicas) else {
         return Ok(None);
     };
+    let Some(objects) = objects_in(given) else {
+        return Ok(None);
+    };
     let folder = String::from_str(alloc, folder)?;
     let config = Config {
         replicas,
@@ -170,12 +200,13 @@ fn options_in(alloc: Global, given: &ArgMatches<'_>) -> Result<Option<Options>, 
         own,
         tick,
         compact,
+        objects,
         folder,
     }))
 }
 
 /// What the words of a command line of `lattice node` say, the program's name first. `None` where the votes
-/// are none of a group.
+/// are none of a group, or the text of the objects says none.
 ///
 /// The options are those that were given, or their defaults, each in its range. An error has a kind that
 /// `clap` finds in the words: they ask for help or for the version, also as `help node`, or they are

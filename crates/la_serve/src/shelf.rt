@@ -1,29 +1,26 @@
 ghost use Rattle.std.specs.Prelude.{◌≡◌, IfOk};
 ghost use Rattle.la_set.specs.Histories.{empty};
-ghost use Rattle.la_object.specs.declared.kind.Kind.TheVariants.{Counter as CounterKind};
-ghost use Rattle.la_object.specs.declared.kind.Kind.TheVariants.{MaxRegister as RegisterKind};
-ghost use Rattle.la_object.specs.declared.kind.Kind.TheVariants.{OrSet as SetKind};
 ghost use Rattle.la_object.specs.Objects.{start};
-ghost use Rattle.la_serve.specs.Ending.{node_objects};
 
-use la_object::{Replicated, Shelf, ShelfError};
-use std::alloc::Global;
+use crate::Objects;
+use la_object::{Kind, Replicated, Shelf, ShelfError};
+use std::alloc::{AllocError, Global};
 
-/// A shelf with a counter under 1, a max register under 2 and an observed-remove set under 3.
-pub fn shelf_of<B: Replicated>(
+/// A shelf with these objects, each as it is made of its kind.
+pub fn shelf_of<B: Replicated, F: Fn(Kind) -> Result<B, AllocError>>(
     alloc: Global,
-    counter: B,
-    register: B,
-    set: B,
+    objects: &Objects,
+    make: F,
 ) -> Result<Shelf<B>, ShelfError>
-    requires counter { B.state counter ≡ start CounterKind }
-    requires register { B.state register ≡ start RegisterKind }
-    requires set { B.state set ≡ start SetKind }
-    ensures { IfOk result (λ shelf. (shelf.view ≡ empty) × (shelf.objects ≡ node_objects)) }
+    requires callable { F.IsAlwaysCallable make }
+    requires made { (kind made : _) → F.post make kind made → IfOk made (λ o. B.state o ≡ start kind) }
+    ensures { IfOk result (λ shelf. (shelf.view ≡ empty) × (shelf.objects ≡ objects.now)) }
 {
     let mut shelf = Shelf::new(alloc);
-    shelf.add(1, counter)?;
-    shelf.add(2, register)?;
-    shelf.add(3, set)?;
+    for place in 0..objects.len() {
+        if let Some((number, kind)) = objects.at(place) {
+            shelf.add(number, make(kind)?)?;
+        }
+    }
     Ok(shelf)
 }

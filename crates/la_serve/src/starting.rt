@@ -1,12 +1,9 @@
 ghost use Rattle.std.specs.Prelude.{◌≡◌, ◌⊎◌, ◌≤◌, take, IfOk};
 ghost use Rattle.la_set.specs.Histories.{empty};
-ghost use Rattle.la_object.specs.declared.kind.Kind.TheVariants.{Counter as CounterKind};
-ghost use Rattle.la_object.specs.declared.kind.Kind.TheVariants.{MaxRegister as RegisterKind};
-ghost use Rattle.la_object.specs.declared.kind.Kind.TheVariants.{OrSet as SetKind};
 ghost use Rattle.la_object.specs.Objects.{start};
 ghost use Rattle.la_io.specs.Streams.{TellsLine, TellsAll};
 ghost use Rattle.la_serve.specs.Faults.{of_journal, start_fault, space_count, option_at};
-ghost use Rattle.la_serve.specs.Ending.{node_status, end_line, end_detail, no_journal_line, no_journal_short, AreAtStart, ServerEnds};
+ghost use Rattle.la_serve.specs.Ending.{node_status, end_line, end_detail, no_journal_line, no_journal_short, ServerEnds};
 ghost use Rattle.la_serve.specs.Io.{io};
 ghost use Rattle.la_serve.specs.Starting.{Starts, torn_told, unsaid_told};
 
@@ -21,7 +18,7 @@ use la_durable::{NodeError, NodeMachine};
 use la_io::{Listener, tell_all};
 use la_journal::{Disk, Durable, Machine, Staged, Unplayed, recover};
 use la_node::{Links, WorldError};
-use la_object::{Counter, MaxRegister, Replicated, Shelf};
+use la_object::{Counter, Kind, MaxRegister, Replicated, Shelf};
 use la_orset::OrSet;
 use la_wire::Tally;
 use std::alloc::{AllocError, Global};
@@ -275,14 +272,12 @@ fn start<R: Read, W: Write + Drop, E: Listener, D: Disk, B: Replicated>(
     }
 }
 
-// Objects in the start states of the kinds that a node's shelf has.
-fn three<B: Replicated>(counter: B, register: B, set: B) -> (B, B, B)
-    requires counter { B.state counter ≡ start CounterKind }
-    requires register { B.state register ≡ start RegisterKind }
-    requires set { B.state set ≡ start SetKind }
-    ensures { AreAtStart B.state result.0 result.1 result.2 }
+// An object in the start state of its kind.
+fn new_of<B: Replicated>(kind: Kind, object: B) -> B
+    requires { B.state object ≡ start kind }
+    ensures { B.state result ≡ start kind }
 {
-    (counter, register, set)
+    object
 }
 
 // The node with objects that are made for it, until its input ends.
@@ -292,7 +287,7 @@ fn run_with<
     E: Listener,
     D: Disk,
     B: Replicated,
-    F: Fn() -> Result<(B, B, B), AllocError>,
+    F: Fn(Kind) -> Result<B, AllocError>,
 >(
     alloc: Global,
     options: &Options,
@@ -304,16 +299,12 @@ fn run_with<
     make: F,
 ) -> Ended<D>
     requires found { D.seen disk ≡ found.items }
-    requires callable { F.pre make }
-    requires made { (made : _) → F.post make made
-        → IfOk made (λ o. AreAtStart B.state o.0 o.1 o.2) }
+    requires callable { F.IsAlwaysCallable make }
+    requires made { (kind made : _) → F.post make kind made → IfOk made (λ o. B.state o ≡ start kind) }
     ensures { ServerEnds D.seen D.may_leave D.moment D.left_since D.faults R.remaining W.contents E.contents E.refuses
         options.now disk (io input.old out.old errors.old) (io input.new out.new errors.new) result }
 {
-    let Ok((counter, register, set)) = make() else {
-        return ended(NodeFault::Memory, disk, errors);
-    };
-    let Ok(shelf) = shelf_of(alloc, counter, register, set) else {
+    let Ok(shelf) = shelf_of(alloc, &options.objects, make) else {
         return ended(NodeFault::Memory, disk, errors);
     };
     match start(alloc, options, shelf, found, disk, input, out, errors) {
@@ -334,9 +325,9 @@ fn ended<E: Listener, D: Drop>(fault: NodeFault, disk: D, errors: &mut E) -> End
     }
 }
 
-/// The command over any streams and any journal, of which the bytes were found: its exit status, and what became of the disk. Its shelf has a counter
-/// under 1, a max register under 2 and an observed-remove set under 3. A journal that has as many kibibytes as the options
-/// say is compacted first.
+/// The command over any streams and any journal, of which the bytes were found: its exit status, and what became of the
+/// disk. Its shelf has the objects of the options. A journal that has as many kibibytes as the options say is compacted
+/// first.
 ///
 /// A crash at any moment from when a text was given out leaves a journal that has all calls that were kept up to it
 /// (`keeps` of `Leaves`, in `specs/Crashes`): whoever starts there goes on from what was written
@@ -354,20 +345,26 @@ pub fn run<R: Read, W: Write + Drop, E: Listener, D: Disk>(
     ensures { ServerEnds D.seen D.may_leave D.moment D.left_since D.faults R.remaining W.contents E.contents E.refuses
         options.now disk (io input.old out.old errors.old) (io input.new out.new errors.new) result }
 {
-    let make = || -> Result<
-        (
-            Box<dyn Replicated + Send>,
-            Box<dyn Replicated + Send>,
-            Box<dyn Replicated + Send>,
-        ),
-        AllocError,
-    >
-        ensures { IfOk result (λ o. (state o.0 ≡ start CounterKind) × (state o.1 ≡ start RegisterKind) × (state o.2 ≡ start SetKind)) }
+    let make = |kind: Kind| -> Result<Box<dyn Replicated + Send>, AllocError>
+        ensures { IfOk result (λ o. state o ≡ start kind) }
     {
-        let counter: Box<dyn Replicated + Send> = Box::new(alloc, Counter::new(alloc))?;
-        let register: Box<dyn Replicated + Send> = Box::new(alloc, MaxRegister::new(alloc))?;
-        let set: Box<dyn Replicated + Send> = Box::new(alloc, OrSet::new(alloc))?;
-        Ok(three(counter, register, set))
+        match kind {
+            Kind::Counter => {
+                let counter: Box<dyn Replicated + Send> = Box::new(alloc, Counter::new(alloc))?;
+                Ok(new_of(kind, counter))
+            }
+            Kind::MaxRegister => {
+                let register: Box<dyn Replicated + Send> = Box::new(
+                    alloc,
+                    MaxRegister::new(alloc),
+                )?;
+                Ok(new_of(kind, register))
+            }
+            Kind::OrSet => {
+                let set: Box<dyn Replicated + Send> = Box::new(alloc, OrSet::new(alloc))?;
+                Ok(new_of(kind, set))
+            }
+        }
     };
     run_with(alloc, options, found, disk, input, out, errors, make)
 }

@@ -14,7 +14,7 @@ use la_node::{Config, Links};
 use la_object::Shelf;
 use la_orset::OrSet;
 use la_proposer::Votes;
-use la_serve::{NodeFault, Options, Output, Server, command, end_without_journal, run, serve};
+use la_serve::{NodeFault, Objects, Options, Output, Server, command, end_without_journal, run, serve};
 use la_set::UpdateSet;
 use std::alloc::Global;
 use std::io;
@@ -368,6 +368,7 @@ fn runs(alloc: Global) -> Came {
         own: 0,
         tick: 0,
         compact: 0,
+        objects: Objects::read("1=counter,2=max,3=set")?,
         folder: String::new(alloc),
     };
     let disk = disk_of(alloc, ROUND.as_bytes())?;

@@ -1,0 +1,42 @@
+-- The objects of a node's shelf, as the option `--objects` says them.
+use Rattle.std.specs.Prelude.{ℕ, Bool, true, List, [], ◌∷◌, length, Option, Some, None, option_map, codes, nat_le, ◌==◌, ◌&&◌}
+use Rattle.std.specs.Prelude.{if◌then◌else◌}
+use Rattle.std.specs.List.{slice_split, before_first, after_first}
+use Rattle.std.specs.Option.{is_none, option_and_then}
+use Rattle.std.specs.Str.{bytes_eq}
+use Rattle.la_object.specs.declared.kind.Kind.{Kind}
+use Rattle.la_object.specs.declared.kind.Kind.TheVariants.{Counter, MaxRegister, OrSet}
+use Rattle.la_object.specs.Shelves.{kind_at}
+use Rattle.la_script.specs.Numbers.{u16_max, number}
+use Rattle.la_script.specs.Words.{each_word}
+
+-- no two of them have one number
+abbrev pub have_own_numbers : List (ℕ × Kind) → Bool
+have_own_numbers [] = true
+have_own_numbers (o ∷ os) = is_none (kind_at os o.0) && have_own_numbers os
+
+-- a shelf may have them: no two under one number, and 64 at the most
+abbrev pub are_for_a_shelf : List (ℕ × Kind) → Bool
+are_for_a_shelf os = nat_le (length os) 64 && have_own_numbers os
+
+-- the kind that a word names
+abbrev pub kind_named : List ℕ → Option Kind
+kind_named word =
+    if bytes_eq word (codes "counter") then Some Counter
+    else if bytes_eq word (codes "max") then Some MaxRegister
+    else if bytes_eq word (codes "set") then Some OrSet
+    else None
+
+-- what a part says: a number of 16 bits, `=` and the name of a kind
+abbrev pub object_in : (part : List ℕ) → Option (ℕ × Kind)
+object_in part =
+    option_and_then
+    (λ n. option_map (λ kind. (n, kind)) (kind_named (after_first (λ b. b == 61) part)))
+    (number 0 u16_max (before_first (λ b. b == 61) part))
+
+-- a text in parts with `,` between them, of which each says one, where a shelf may have them all
+abbrev pub objects_in : (text : List ℕ) → Option (List (ℕ × Kind))
+objects_in text =
+    option_and_then
+    (λ os. if are_for_a_shelf os then Some os else None)
+    (each_word object_in (slice_split (λ b. b == 44) text))
