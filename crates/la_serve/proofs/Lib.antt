@@ -4,6 +4,8 @@ pub mod VoteTexts
 pub mod Acting
 pub mod Turns
 pub mod Taking
+pub mod Fits
+pub mod Counting
 pub mod Saying
 pub mod Reading
 pub mod Behind

@@ -123,8 +123,8 @@ fn no_journal_line(alloc: Global, folder: &str, kind: ErrorKind) -> Result<Vec<u
 }
 
 /// The exit status where a node's folder can't be opened, for an error of this kind, which is told behind `NoJournal` and
-/// the folder; without the folder, where there is no memory for the line. Of a folder that another process has,
-/// [`end_with`] tells.
+/// the folder; without the folder, where there is no memory for the line. `ResourceBusy` is told of a folder that another
+/// process has.
 pub fn end_without_journal<E: Listener>(
     alloc: Global,
     folder: &str,
