@@ -1,6 +1,6 @@
 -- Notes that are written part by part.
 use Rattle.std.proofs.Common.{◌≡◌, ℕ, zero, suc, ◌+◌, ◌-◌, ◌<◌, List, [], ◌∷◌, ◌++◌, refl, sym, ap, ◌∙◌, append_assoc}
-use Rattle.std.proofs.Common.{arith, subst}
+use Rattle.std.proofs.Common.{◌≤◌, arith, append-nil}
 use Rattle.std.specs.Prelude.{codes}
 use Rattle.std.specs.Fmt.{decimal}
 use Rattle.std.specs.List.{flat_map, range_with_len}
@@ -18,6 +18,15 @@ more_words o p xs ys is =
     ∙ append_assoc o (spaced 32 xs) (spaced 32 ys)
     ∙ ap (λ bytes. o ++ bytes) (sym (spaced_append 32 xs ys))
 
+-- a note's first word
+pub first_noted : (own : ℕ) (o p w : List ℕ) → p ≡ o ++ codes "# r" ++ decimal own ++ 32 ∷ w
+    → p ≡ o ++ begun_note own (w ∷ [])
+first_noted own o p w is =
+    is
+    ∙ ap (λ bytes. bytes ++ 32 ∷ w) (append_assoc o (codes "# r") (decimal own))
+    ∙ append_assoc o (codes "# r" ++ decimal own) (32 ∷ w)
+    ∙ ap (λ bytes. o ++ (codes "# r" ++ decimal own ++ 32 ∷ bytes)) (sym (append-nil w))
+
 module _ (own : ℕ) (o p : List ℕ) (xs : List (List ℕ)) (is : p ≡ o ++ begun_note own xs) where
   -- the same of a note
   pub more_noted : (ys : List (List ℕ)) → p ++ spaced 32 ys ≡ o ++ begun_note own (xs ++ ys)
@@ -28,6 +37,10 @@ module _ (own : ℕ) (o p : List ℕ) (xs : List (List ℕ)) (is : p ≡ o ++ be
       ∙ ap (λ bytes. o ++ bytes)
       (append_assoc front (spaced 32 xs) (spaced 32 ys)
       ∙ ap (λ bytes. front ++ bytes) (sym (spaced_append 32 xs ys)))
+
+  -- one word more
+  pub word_noted : (w : List ℕ) → p ++ 32 ∷ w ≡ o ++ begun_note own (xs ++ w ∷ [])
+  word_noted w = ap (λ bytes. p ++ 32 ∷ bytes) (sym (append-nil w)) ∙ more_noted (w ∷ [])
 
   -- its end
   pub noted : p ++ 10 ∷ [] ≡ o ++ note own xs
@@ -55,6 +68,9 @@ put_peer_next known own p n before after all lt is so_far =
     ∙ so_far
 
 -- none is left
-pub no_peers : (known : Links) (own p n : ℕ) → n ≡ 0 → spaced 32 (peers_from known own p n) ≡ []
+pub all_peers : (known : Links) (own p n : ℕ) (out all : List ℕ) → n ≤ p
+    → out ++ spaced 32 (peers_from known own p (n - p)) ≡ all → out ≡ all
 unfolding peers_from
-no_peers known own p n none = rw none refl
+all_peers known own p n out all past is =
+    let none : n - p ≡ 0 = omega (arith, past) in
+    sym (append-nil out) ∙ ap (λ m. out ++ spaced 32 (peers_from known own p m)) (sym none) ∙ is

@@ -30,7 +30,8 @@ use Rattle.la_wire.proofs.Decimals.{number-decimal, decimal-canonical, decimal-p
 use Rattle.la_wire.proofs.Ids.{id-plain, id-back}
 use Rattle.la_wire.proofs.Joins.{plain-no_space, words-back}
 use Rattle.la_wire.proofs.Typed.{typed-id}
-use Rattle.la_wire.proofs.NumberedLines.{first_part, canonical_no_id}
+use Rattle.la_wire.proofs.FirstWords.{first_part}
+use Rattle.la_wire.proofs.NumberedLines.{canonical_no_id}
 
 -- ## Numbers
 

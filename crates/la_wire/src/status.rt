@@ -152,10 +152,10 @@ fn put_peers(out: &mut Vec<u8>, known: &Links, own: u8, replicas: u8) -> Result<
     Ok(())
 }
 
-fn put_open(out: &mut Vec<u8>, open: bool) -> Result<(), AllocError>
-    ensures { OnOk result (out.new.items ≡ out.old.items ++ spaced 32 (open_word open ∷ [])) }
+fn put_open(out: &mut Vec<u8>, is_open: bool) -> Result<(), AllocError>
+    ensures { OnOk result (out.new.items ≡ out.old.items ++ spaced 32 (open_word is_open ∷ [])) }
 {
-    if open {
+    if is_open {
         put_word(out, b"open")
     } else {
         put_word(out, b"shut")
