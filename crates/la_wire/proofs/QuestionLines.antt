@@ -217,22 +217,22 @@ module _ (line : List ℕ) (c : WireCall) (says : named_call line ≡ Some c) wh
   pub call_no_take : take_in line ≡ None
   unfolding take_in
   call_no_take = ap take_by words ∙ (
-    elim (cases_Bool (bytes_eq first (spelling keyword.Submit))) [
-      | inl is ↦ let f = fit (spelling keyword.Submit) is refl refl refl in submit_no_take f.0 first more f.1
-      | inr not ↦ other_no_take first more not
-    ]
-  )
+      elim (cases_Bool (bytes_eq first (spelling keyword.Submit))) [
+        | inl is ↦ let f = fit (spelling keyword.Submit) is refl refl refl in submit_no_take f.0 first more f.1
+        | inr not ↦ other_no_take first more not
+      ]
+      )
 
   pub call_waits_not : awaited_in line ≡ None
   unfolding awaited_in
   call_waits_not = ap (awaited_on line) words ∙ (
-    elim (cases_Bool (bytes_eq first (spelling keyword.Ask))) [
-      | inl is ↦
-          let f = fit (spelling keyword.Ask) is refl refl refl in
-          ap (λ v. awaited_on line (v ∷ more)) ((bytes_eq-Decides first (spelling keyword.Ask)).0 is)
-          ∙ ask_waits_not f.0 line more f.1
-      | inr not ↦
-          ap (λ b. cond (b && bytes_eq (from_last 2 (first ∷ more)) at_word)
-          (awaited_by line (from_last 1 (first ∷ more))) None) not
-    ]
-  )
+      elim (cases_Bool (bytes_eq first (spelling keyword.Ask))) [
+        | inl is ↦
+            let f = fit (spelling keyword.Ask) is refl refl refl in
+            ap (λ v. awaited_on line (v ∷ more)) ((bytes_eq-Decides first (spelling keyword.Ask)).0 is)
+            ∙ ask_waits_not f.0 line more f.1
+        | inr not ↦
+            ap (λ b. cond (b && bytes_eq (from_last 2 (first ∷ more)) at_word)
+            (awaited_by line (from_last 1 (first ∷ more))) None) not
+      ]
+      )

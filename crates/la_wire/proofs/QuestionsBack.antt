@@ -173,11 +173,11 @@ module _ (line : List ℕ) (id : UpdateId) (is : IsId id) where
       let words = first_part (λ b. eqb b 32) line in
       ap (λ ws. cond (awaits ws) (awaited_by (waiting line id) (from_last 1 ws)) None) waiting_words
       ∙ (
-        rw (
-          ap (λ ws. get_or (ws ++ at_word ∷ id_text id ∷ []) 0 []) words.1 ∙ front,
-          last_but_one (words_of line) at_word (id_text id),
-          last_one (words_of line) at_word (id_text id),
-          id-back id is,
-          whole_before,
-        ) refl
+      rw (
+        ap (λ ws. get_or (ws ++ at_word ∷ id_text id ∷ []) 0 []) words.1 ∙ front,
+        last_but_one (words_of line) at_word (id_text id),
+        last_one (words_of line) at_word (id_text id),
+        id-back id is,
+        whole_before,
+      ) refl
       )

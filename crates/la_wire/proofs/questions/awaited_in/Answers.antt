@@ -7,11 +7,11 @@ use Rattle.la_wire.proofs.questions.awaited_in.Goals.{in_default-via-then-as_sli
 pub returns : goal.returns
 returns c =
     waits_for_none c.args.line.now c.as_slice.result.now (ap bytes_of c.as_slice.ensures.value ∙ c.in_ok-words.ensures) (
-      elim c.in_default.branch [
-        | in_default-via-then-as_slice-lt3 w ↦ too_few c.as_slice.result.now (search rules)
-        | in_default-via-in-len3-up+then-eq+else-eq-2 w ↦
-            other_at c.as_slice.result.now _ (search rules) (sym w.eq-then-eq.ensures ∙ w.if-eq-2.false)
-        | in_default-via-in-len3-up+else-eq w ↦
-            other_first c.as_slice.result.now _ (search rules) (sym w.eq.ensures ∙ w.if-eq.false)
-      ]
+    elim c.in_default.branch [
+      | in_default-via-then-as_slice-lt3 w ↦ too_few c.as_slice.result.now (search rules)
+      | in_default-via-in-len3-up+then-eq+else-eq-2 w ↦
+          other_at c.as_slice.result.now _ (search rules) (sym w.eq-then-eq.ensures ∙ w.if-eq-2.false)
+      | in_default-via-in-len3-up+else-eq w ↦
+          other_first c.as_slice.result.now _ (search rules) (sym w.eq.ensures ∙ w.if-eq.false)
+    ]
     )
