@@ -1,5 +1,5 @@
 -- A line by its first word, and by the form that its words have.
-use Rattle.std.proofs.Common.{◌≡◌, ℕ, ◌+◌, ◌<◌, ◌≤◌, ◌==◌, ◌&&◌, Bool, true, false, cond, List, [], ◌∷◌, length, take_all}
+use Rattle.std.proofs.Common.{◌≡◌, ℕ, ◌+◌, ◌≤◌, ◌&&◌, Bool, true, false, cond, List, [], ◌∷◌, length, take_all}
 use Rattle.std.proofs.Common.{drop_of_length-le, Option, Some, None, Ok, refl, sym, ap, ◌∙◌, arith, inl, inr}
 use Rattle.std.specs.List.{find, slice_split, position_or_len, before_first, after_first}
 use Rattle.std.specs.Str.{bytes_eq}
@@ -15,7 +15,8 @@ use Rattle.la_script.specs.Lines.{words_of, event_in, line_event}
 use Rattle.la_wire.specs.declared.messages.Kind.{Kind}
 use Rattle.la_wire.specs.MessageLines.{kind_word, known_word}
 use Rattle.la_wire.specs.Calls.{WireCall, Tick}
-use Rattle.la_wire.specs.CallLines.{tick_word, script_call, known_call, first_kind, call_by, call_of, said_ok, named_call}
+use Rattle.la_wire.specs.CallLines.{tick_word, script_call, known_call, first_kind, call_by, call_of, said_ok}
+use Rattle.la_wire.specs.CallLines.{named_call}
 use Rattle.la_wire.specs.Requests.{front_word}
 
 -- ## Parts

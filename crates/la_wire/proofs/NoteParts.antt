@@ -1,9 +1,8 @@
 -- Notes that are written part by part.
-use Rattle.std.proofs.Common.{◌≡◌, ℕ, zero, suc, ◌+◌, ◌-◌, ◌<◌, List, [], ◌∷◌, ◌++◌, refl, sym, ap, ◌∙◌, append_assoc}
+use Rattle.std.proofs.Common.{◌≡◌, ℕ, suc, ◌+◌, ◌-◌, ◌<◌, List, [], ◌∷◌, ◌++◌, refl, sym, ap, ◌∙◌, append_assoc}
 use Rattle.std.proofs.Common.{◌≤◌, arith, append-nil}
 use Rattle.std.specs.Prelude.{codes}
 use Rattle.std.specs.Fmt.{decimal}
-use Rattle.std.specs.List.{flat_map, range_with_len}
 use Rattle.la_node.specs.declared.link.Links.{Links}
 use Rattle.la_wire.specs.Joined.{spaced}
 use Rattle.la_wire.specs.Notes.{begun_note, note}
@@ -48,7 +47,8 @@ module _ (own : ℕ) (o p : List ℕ) (xs : List (List ℕ)) (is : p ≡ o ++ be
 
 -- ## What is known of replicas
 
-next_peer : (known : Links) (own p n : ℕ) → peers_from known own p (suc n) ≡ peer_words known own p ++ peers_from known own (p + 1) n
+next_peer : (known : Links) (own p n : ℕ)
+    → peers_from known own p (suc n) ≡ peer_words known own p ++ peers_from known own (p + 1) n
 unfolding peers_from
 next_peer known own p n = refl
 

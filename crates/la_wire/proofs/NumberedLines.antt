@@ -1,18 +1,18 @@
 -- Submissions under numbers, read apart.
-use Rattle.std.proofs.Common.{◌≡◌, ℕ, ◌+◌, ◌<◌, ◌≤◌, ◌==◌, ◌&&◌, Bool, true, false, cond, eqb, List, [], ◌∷◌, ◌++◌}
-use Rattle.std.proofs.Common.{length, take_all, drop_of_length-le, All, Option, Some, None, option_map, Ok, refl, sym}
+use Rattle.std.proofs.Common.{◌≡◌, ℕ, ◌+◌, ◌<◌, ◌==◌, Bool, true, false, cond, eqb, List, [], ◌∷◌, ◌++◌}
+use Rattle.std.proofs.Common.{length, All, Option, Some, None, option_map, refl, sym}
 use Rattle.std.proofs.Common.{ap, subst}
 use Rattle.std.proofs.Common.{◌∙◌, arith, inl, inr}
 use Rattle.std.specs.Char.{is_ascii_digit}
 use Rattle.std.specs.Fmt.{decimal}
-use Rattle.std.specs.List.{list_all, find, slice_split, position_or_len, before_first, after_first}
+use Rattle.std.specs.List.{list_all, slice_split, position_or_len, before_first}
 use Rattle.std.specs.Option.{option_and_then}
 use Rattle.std.specs.Str.{bytes_eq}
-use Rattle.std.proofs.lemmas.Bool.{and_parts, cases_lt, cases_Bool, eqb-true, false≢true, false_from_ne_true}
+use Rattle.std.proofs.lemmas.Bool.{cases_lt, cases_Bool, eqb-true, false≢true}
 use Rattle.std.proofs.lemmas.Bool.Decides.{nat_tests}
 use Rattle.std.proofs.lemmas.List.Elements.{All-weaker, All-cons, All-nil}
-use Rattle.std.proofs.lemmas.List.Splits.{slice_split_first, slice_split_none}
-use Rattle.std.proofs.lemmas.List.Sums.{AllPass-from_list_all, fails_before_first, position_or_len_is}
+use Rattle.std.proofs.lemmas.List.Splits.{slice_split_first}
+use Rattle.std.proofs.lemmas.List.Sums.{AllPass-from_list_all, position_or_len_is}
 use Rattle.std.proofs.lemmas.Option.{none-some, same_Some}
 use Rattle.std.proofs.lemmas.Slice.Eq.{bytes_eq-Decides}
 use Rattle.la_set.specs.declared.update.Op.{Op}
@@ -24,18 +24,17 @@ use Rattle.la_script.specs.declared.forms.Form.TheVariants as form
 use Rattle.la_script.specs.declared.forms.Keyword.TheVariants as keyword
 use Rattle.la_script.specs.declared.script.Version.TheVariants.{Two}
 use Rattle.la_script.specs.declared.values.Values.{Values}
-use Rattle.la_script.specs.Forms.{spelling, form_places, fits, forms, has_form, has_gap, form_of}
-use Rattle.la_script.specs.Lines.{words_of, or_fault, event_in, line_event}
+use Rattle.la_script.specs.Forms.{spelling, form_places, fits, form_of}
+use Rattle.la_script.specs.Lines.{words_of, or_fault, event_in}
 use Rattle.la_script.specs.Numbers.{u8_max, is_canonical, number}
 use Rattle.la_script.specs.Tags.{tag_of_replica, tag_in, tag_of}
 use Rattle.la_script.specs.Text.{id_text}
 use Rattle.la_script.specs.Values.{no_values, values, event}
 use Rattle.la_wire.specs.Joined.{joined_by}
 use Rattle.la_wire.specs.Updates.{op_words}
-use Rattle.la_wire.specs.MessageLines.{kind_word, known_word}
-use Rattle.la_wire.specs.Calls.{WireCall, Submit, Tick}
-use Rattle.la_wire.specs.CallLines.{call_line_text, tick_word, event_call, script_call, known_call, first_kind, call_by}
-use Rattle.la_wire.specs.CallLines.{call_of, said_ok, named_call}
+use Rattle.la_wire.specs.Calls.{WireCall, Submit}
+use Rattle.la_wire.specs.CallLines.{call_line_text, event_call, script_call}
+use Rattle.la_wire.specs.CallLines.{said_ok, named_call}
 use Rattle.la_wire.specs.Writable.{IsId}
 use Rattle.la_wire.specs.Requests.{NumberedLine, front_word, behind_word, submission_line, numbered_by, numbered_in}
 use Rattle.la_wire.specs.Requests.{numbered_submission, IsSubmission}

@@ -21,7 +21,8 @@ use Rattle.la_wire.specs.Calls.{WireCall}
 use Rattle.la_wire.specs.CallLines.{tick_word, script_call, said_ok, named_call}
 use Rattle.la_wire.specs.Requests.{front_word}
 use Rattle.la_wire.specs.Questions.{status_word, tags_word, updates_word, take_word, at_word, status_asked}
-use Rattle.la_wire.specs.Questions.{question_asked, question_by, question_in, take_by, take_in, AwaitedLine, without_at}
+use Rattle.la_wire.specs.Questions.{question_asked, question_by, question_in, take_by, take_in, AwaitedLine}
+use Rattle.la_wire.specs.Questions.{without_at}
 use Rattle.la_wire.specs.Questions.{awaited_by, from_last, awaits, awaited_in}
 use Rattle.la_wire.proofs.FirstWords.{first_part, said_of, form_said, said_by_words}
 

@@ -1,6 +1,6 @@
 -- Words that are no question or take, or that wait for nothing.
-use Rattle.std.proofs.Common.{◌≡◌, ℕ, ◌+◌, ◌-◌, ◌<◌, ◌≤◌, Bool, true, false, cond, ◌&&◌, List, [], ◌∷◌, length, get_or}
-use Rattle.std.proofs.Common.{None, Bor, refl, sym, ap, ◌∙◌, arith, inl, inr}
+use Rattle.std.proofs.Common.{◌≡◌, ℕ, ◌-◌, ◌<◌, ◌≤◌, Bool, true, false, cond, ◌&&◌, List, [], ◌∷◌, length, get_or}
+use Rattle.std.proofs.Common.{None, Bor, refl, sym, ap, ◌∙◌, arith}
 use Rattle.std.specs.Str.{bytes_eq}
 use Rattle.std.proofs.Math.Bool.{and-false}
 use Rattle.std.proofs.lemmas.List.{get_or-map, length-map}
@@ -9,7 +9,8 @@ use Rattle.la_script.specs.declared.forms.Keyword.TheVariants as keyword
 use Rattle.la_script.specs.Forms.{spelling}
 use Rattle.la_script.specs.Lines.{words_of}
 use Rattle.la_script.specs.Words.{bytes_of}
-use Rattle.la_wire.specs.Questions.{tags_word, at_word, question_asked, take_by, awaited_by, from_last, awaits, awaited_in}
+use Rattle.la_wire.specs.Questions.{tags_word, at_word, question_asked, take_by, awaited_by, from_last, awaits}
+use Rattle.la_wire.specs.Questions.{awaited_in}
 
 -- of other numbers of words
 pub no_question : (ws : List (Bor (List ℕ))) → (length ws ≡ 3 → ⊥) → (length ws ≡ 4 → ⊥)

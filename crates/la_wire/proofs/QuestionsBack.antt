@@ -1,6 +1,7 @@
 -- Questions, takes and questions that wait are read as they were written.
-use Rattle.std.proofs.Common.{◌≡◌, ℕ, ◌+◌, ◌-◌, ◌≤◌, Bool, true, false, cond, eqb, List, [], ◌∷◌, ◌++◌, length, take}
-use Rattle.std.proofs.Common.{get_or, All, Option, Some, None, refl, sym, ap, ◌∙◌, arith, append_assoc, length-append, inl, inr}
+use Rattle.std.proofs.Common.{◌≡◌, ℕ, ◌+◌, ◌-◌, ◌≤◌, Bool, true, cond, eqb, List, [], ◌∷◌, ◌++◌, length, take}
+use Rattle.std.proofs.Common.{get_or, All, Option, Some, None, refl, ap, ◌∙◌, arith, append_assoc, length-append}
+use Rattle.std.proofs.Common.{inl, inr}
 use Rattle.std.specs.Prelude.{codes}
 use Rattle.std.specs.Fmt.{decimal}
 use Rattle.std.specs.List.{list_all, slice_split, onto_first}
@@ -23,7 +24,7 @@ use Rattle.la_wire.specs.Joined.{joined_by}
 use Rattle.la_wire.specs.Requests.{front_word}
 use Rattle.la_wire.specs.Writable.{IsId}
 use Rattle.la_wire.specs.Questions.{status_word, tags_word, updates_word, take_word, at_word, question_by, question_in}
-use Rattle.la_wire.specs.Questions.{taker_by, taker_of, take_by, take_in, AwaitedLine, without_at, awaited_by, from_last}
+use Rattle.la_wire.specs.Questions.{taker_by, taker_of, take_by, take_in, without_at, awaited_by, from_last}
 use Rattle.la_wire.specs.Questions.{awaits, awaited_in, question_text, taker_text, take_text, IsQuestion, IsTakeNumber}
 use Rattle.la_wire.specs.Questions.{IsTake}
 use Rattle.la_wire.proofs.Decimals.{number-decimal, decimal-canonical, decimal-plain, is_plain, IsPlain}

@@ -63,4 +63,5 @@ own_words s =
 abbrev pub status_note : NodeStatus → (version name : List ℕ) → List ℕ
 status_note s version name =
     answering_note s.own name
-    (status_word ∷ codes "version" ∷ version ∷ own_words s ++ peers_from s.known s.own 0 s.replicas ++ counts_words s.tally)
+    (status_word ∷ codes "version" ∷ version ∷ own_words s ++ peers_from s.known s.own 0 s.replicas
+    ++ counts_words s.tally)

@@ -6,13 +6,12 @@ ghost use Rattle.la_wire.specs.Questions.{tags_question, updates_question, quest
 ghost use Rattle.la_wire.specs.Questions.{question_by, question_in, taker_of, taken_by, take_by, take_in};
 ghost use Rattle.la_wire.specs.Questions.{awaited_line, awaited_by, awaited_in};
 
+use crate::requests::SUBMIT;
 use la_script::{number, tag_of, words_of};
 use la_set::UpdateId;
 use std::alloc::{AllocError, Global};
 
 const ASK: &[u8] = b"ask";
-
-const SUBMIT: &[u8] = b"submit";
 
 const STATUS: &[u8] = b"status";
 
@@ -197,7 +196,7 @@ pub fn take_in(alloc: Global, line: &[u8]) -> Result<Option<Take>, AllocError>
     Ok(take_by(&words))
 }
 
-// Apart, where this word at the line's end is an id. The line is as long as what is taken off, at least.
+// Apart, where this word at the line's end is an id. The line is as long as what is taken off, at least, where it ends so.
 fn awaited_by<'a>(line: &'a [u8], word: &[u8]) -> Option<Awaited<'a>>
     ensures { option_map awaited_line result ≡ awaited_by line.now word.now }
 {
