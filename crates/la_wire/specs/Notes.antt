@@ -21,9 +21,12 @@ use Rattle.la_wire.specs.Questions.{tags_word, updates_word}
 
 -- ## Notes
 
--- what a replica notes, word by word
+-- what a replica notes, word by word, without the line's end
+abbrev pub begun_note : (own : ℕ) → List (List ℕ) → List ℕ
+begun_note own words = codes "# r" ++ decimal own ++ spaced 32 words
+
 abbrev pub note : (own : ℕ) → List (List ℕ) → List ℕ
-note own words = codes "# r" ++ decimal own ++ spaced 32 words ++ 10 ∷ []
+note own words = begun_note own words ++ 10 ∷ []
 
 -- what answers a request, with its name behind it
 abbrev pub answering_note : (own : ℕ) → (name : List ℕ) → List (List ℕ) → List ℕ

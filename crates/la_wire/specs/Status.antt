@@ -24,16 +24,21 @@ abbrev pub counted_words : (label : List ℕ) → ℕ → List (List ℕ)
 counted_words label n = label ∷ decimal n ∷ []
 
 -- how many messages of each kind
-abbrev pub kinds_words : Kinds → List (List ℕ)
+unfoldable pub kinds_words : Kinds → List (List ℕ)
 kinds_words k =
     counted_words (codes "offer") k.offers ++ counted_words (codes "yes") k.yes ++ counted_words (codes "no") k.no
     ++ counted_words (codes "tell") k.tells ++ counted_words (codes "known") k.known
 
+-- messages that came, or that went
+abbrev pub traffic_words : (label : List ℕ) → Kinds → List (List ℕ)
+traffic_words label k = label ∷ kinds_words k
+
 -- what came, what went, what was refused, and what was written into the journal
-abbrev pub counts_words : Tally → List (List ℕ)
+unfoldable pub counts_words : Tally → List (List ℕ)
 counts_words t =
-    codes "in" ∷ kinds_words t.received ++ codes "out" ∷ kinds_words t.sent ++ counted_words (codes "refused") t.refused
-    ++ counted_words (codes "written") t.written ++ counted_words (codes "syncs") t.syncs
+    traffic_words (codes "in") t.received ++ traffic_words (codes "out") t.sent
+    ++ counted_words (codes "refused") t.refused ++ counted_words (codes "written") t.written
+    ++ counted_words (codes "syncs") t.syncs
 
 -- how far another replica is, as far as is known
 abbrev pub peer_words : Links → (own peer : ℕ) → List (List ℕ)
@@ -41,7 +46,7 @@ peer_words known own p =
     if p == own then [] else codes "peer" ∷ decimal p ∷ progress_words (known_of known p)
 
 -- of so many replicas, from this one on
-abbrev pub peers_from : Links → (own first many : ℕ) → List (List ℕ)
+unfoldable pub peers_from : Links → (own first many : ℕ) → List (List ℕ)
 peers_from known own first many = flat_map (peer_words known own) (range_with_len first many)
 
 -- whether a ballot is open
@@ -49,7 +54,7 @@ abbrev pub open_word : Bool → List ℕ
 open_word is_open = if is_open then codes "open" else codes "shut"
 
 -- what the node itself has
-abbrev pub own_words : NodeStatus → List (List ℕ)
+unfoldable pub own_words : NodeStatus → List (List ℕ)
 own_words s =
     progress_words s.progress ++ counted_words (codes "submitted") s.submitted
     ++ counted_words (codes "waiting") s.waiting ++ counted_words (codes "ballot") s.ballot ++ open_word s.open ∷ []
@@ -58,4 +63,5 @@ own_words s =
 abbrev pub status_note : NodeStatus → (version name : List ℕ) → List ℕ
 status_note s version name =
     answering_note s.own name
-    (status_word ∷ codes "version" ∷ version ∷ own_words s ++ peers_from s.known s.own 0 s.replicas ++ counts_words s.tally)
+    (status_word ∷ codes "version" ∷ version ∷ own_words s ++ peers_from s.known s.own 0 s.replicas
+    ++ counts_words s.tally)

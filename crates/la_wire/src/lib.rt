@@ -31,8 +31,8 @@
 //! ballot that was learnt last, or `none`; then of each reply that has counted its acceptor F and `yes`, or what was
 //! refused. The updates are those of all these sets, and in instance 0 of the view: each C counts from their front.
 //!
-//! Beside the calls of a script a client may write these lines, each in place of the call. An id R.K stands where a
-//! submission is to have a number, and a name ` @N` behind any of them.
+//! Beside the calls of a script a client may write these lines. A name ` @N` may stand behind each, and then stands behind
+//! what answers it.
 //!
 //! | Line | What is answered |
 //! |---|---|

@@ -5,7 +5,7 @@ ghost use Rattle.la_wire.specs.Messages.{letter_message};
 ghost use Rattle.la_wire.specs.Writable.{IsTypedMessage};
 ghost use Rattle.la_wire.specs.Notes.{outcome_word, message_line, known_line};
 ghost use Rattle.la_wire.specs.Notes.{submitted_note, proposed_note, learnt_note, view_note};
-ghost use Rattle.la_wire.specs.Notes.{outcome_note, answered_note, tags_note, updates_note, waiting_note};
+ghost use Rattle.la_wire.specs.Notes.{outcome_note, answered_note, begun_note, tags_note, updates_note, waiting_note};
 ghost use Rattle.la_wire.specs.Joined.{spaced};
 ghost use Rattle.la_wire.specs.Requests.{name_words};
 
@@ -161,7 +161,7 @@ pub fn put_answered(
 // Begins an answer of an object with a word.
 fn put_answering(out: &mut Vec<u8>, own: u8, object: u16, word: &[u8]) -> Result<(), AllocError>
     ensures { OnOk result (out.new.items
-        ≡ out.old.items ++ codes "# r" ++ decimal own ++ spaced 32 (codes "answered" ∷ decimal object ∷ word.now ∷ [])) }
+        ≡ out.old.items ++ begun_note own (codes "answered" ∷ decimal object ∷ word.now ∷ [])) }
 {
     put_front(out, own, b"answered")?;
     put_number(out, u64::from(object))?;
@@ -170,7 +170,6 @@ fn put_answering(out: &mut Vec<u8>, own: u8, object: u16, word: &[u8]) -> Result
 
 /// Notes by which updates an object still has an element, to a request of this name. After a refusal a part of the note
 /// may stand there.
-#[tactic(auto, using(crate::proofs::UpdateLists::spaced_append))]
 pub fn put_tags_answer(
     out: &mut Vec<u8>,
     own: u8,

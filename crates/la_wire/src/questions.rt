@@ -1,17 +1,17 @@
 // What a client asks of a node that no call says, and what it takes out of a set by what is seen.
 ghost use Rattle.std.specs.Prelude.{◌≡◌, IfOk, option_map};
 ghost use Rattle.la_script.specs.Words.{bytes_of};
-ghost use Rattle.la_script.specs.Numbers.{u8_max, number};
-ghost use Rattle.la_wire.specs.Questions.{question_asked, status_asked, question_by, question_in};
-ghost use Rattle.la_wire.specs.Questions.{taker_of, take_by, take_in, awaited_line, awaited_by, awaited_in};
+ghost use Rattle.la_script.specs.Numbers.{u8_max, u16_max, u64_max, number};
+ghost use Rattle.la_wire.specs.Questions.{tags_question, updates_question, question_asked, status_asked};
+ghost use Rattle.la_wire.specs.Questions.{question_by, question_in, taker_of, taken_by, take_by, take_in};
+ghost use Rattle.la_wire.specs.Questions.{awaited_line, awaited_by, awaited_in};
 
+use crate::requests::SUBMIT;
 use la_script::{number, tag_of, words_of};
 use la_set::UpdateId;
 use std::alloc::{AllocError, Global};
 
 const ASK: &[u8] = b"ask";
-
-const SUBMIT: &[u8] = b"submit";
 
 const STATUS: &[u8] = b"status";
 
@@ -86,7 +86,8 @@ fn object_in(word: &[u8]) -> Option<u16>
 }
 
 fn tags_question(replica: &[u8], object: &[u8], element: &[u8]) -> Option<Question>
-    ensures { result ≡ tags_question (number 0 u8_max replica.now) (number 0 u16_max object.now) (number 0 u64_max element.now) }
+    ensures { result ≡ tags_question (number 0 u8_max replica.now) (number 0 u16_max object.now)
+        (number 0 u64_max element.now) }
 {
     Some(Question::Tags {
         replica: replica_in(replica)?,
@@ -195,7 +196,7 @@ pub fn take_in(alloc: Global, line: &[u8]) -> Result<Option<Take>, AllocError>
     Ok(take_by(&words))
 }
 
-// Apart, where this word at the line's end is an id. The line is as long as what is taken off, at least.
+// Apart, where this word at the line's end is an id. The line is as long as what is taken off, at least, where it ends so.
 fn awaited_by<'a>(line: &'a [u8], word: &[u8]) -> Option<Awaited<'a>>
     ensures { option_map awaited_line result ≡ awaited_by line.now word.now }
 {

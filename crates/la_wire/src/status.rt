@@ -1,8 +1,10 @@
 // How a node stands, as a note.
-ghost use Rattle.std.specs.Prelude.{◌≡◌, ◌++◌, OnOk};
+ghost use Rattle.std.specs.Prelude.{◌≡◌, ◌++◌, ◌∷◌, [], codes, OnOk};
 ghost use Rattle.la_wire.specs.Joined.{spaced};
-ghost use Rattle.la_wire.specs.Status.{no_kinds, no_tally, counted_words, kinds_words, counts_words};
-ghost use Rattle.la_wire.specs.Status.{peer_words, peers_from, own_words, status_note};
+ghost use Rattle.la_wire.specs.Questions.{status_word};
+ghost use Rattle.la_wire.specs.Notes.{begun_note};
+ghost use Rattle.la_wire.specs.Status.{no_kinds, no_tally, counted_words, kinds_words, traffic_words, counts_words};
+ghost use Rattle.la_wire.specs.Status.{peer_words, peers_from, open_word, own_words, status_note};
 
 use crate::notes::{put_end, put_front, put_name};
 use crate::writing::{put_number, put_progress, put_word};
@@ -101,6 +103,7 @@ fn put_counted(out: &mut Vec<u8>, label: &[u8], number: u64) -> Result<(), Alloc
     put_number(out, number)
 }
 
+#[tactic(auto, unfolding(crate::specs::Status::kinds_words))]
 fn put_kinds(out: &mut Vec<u8>, kinds: &Kinds) -> Result<(), AllocError>
     ensures { OnOk result (out.new.items ≡ out.old.items ++ spaced 32 (kinds_words kinds.now)) }
 {
@@ -111,13 +114,19 @@ fn put_kinds(out: &mut Vec<u8>, kinds: &Kinds) -> Result<(), AllocError>
     put_counted(out, b"known", kinds.known)
 }
 
+// Writes how many messages came, or went, behind a word that says which.
+fn put_traffic(out: &mut Vec<u8>, label: &[u8], kinds: &Kinds) -> Result<(), AllocError>
+    ensures { OnOk result (out.new.items ≡ out.old.items ++ spaced 32 (traffic_words label.now kinds.now)) }
+{
+    put_word(out, label)?;
+    put_kinds(out, kinds)
+}
+
 fn put_tally(out: &mut Vec<u8>, tally: &Tally) -> Result<(), AllocError>
     ensures { OnOk result (out.new.items ≡ out.old.items ++ spaced 32 (counts_words tally.now)) }
 {
-    put_word(out, b"in")?;
-    put_kinds(out, &tally.received)?;
-    put_word(out, b"out")?;
-    put_kinds(out, &tally.sent)?;
+    put_traffic(out, b"in", &tally.received)?;
+    put_traffic(out, b"out", &tally.sent)?;
     put_counted(out, b"refused", tally.refused)?;
     put_counted(out, b"written", tally.written)?;
     put_counted(out, b"syncs", tally.syncs)
@@ -143,6 +152,16 @@ fn put_peers(out: &mut Vec<u8>, known: &Links, own: u8, replicas: u8) -> Result<
     Ok(())
 }
 
+fn put_open(out: &mut Vec<u8>, is_open: bool) -> Result<(), AllocError>
+    ensures { OnOk result (out.new.items ≡ out.old.items ++ spaced 32 (open_word is_open ∷ [])) }
+{
+    if is_open {
+        put_word(out, b"open")
+    } else {
+        put_word(out, b"shut")
+    }
+}
+
 // Writes what the node itself has.
 fn put_own(out: &mut Vec<u8>, status: &NodeStatus) -> Result<(), AllocError>
     ensures { OnOk result (out.new.items ≡ out.old.items ++ spaced 32 (own_words status.now)) }
@@ -151,7 +170,17 @@ fn put_own(out: &mut Vec<u8>, status: &NodeStatus) -> Result<(), AllocError>
     put_counted(out, b"submitted", u64::from(status.submitted))?;
     put_counted(out, b"waiting", u64::from(status.waiting))?;
     put_counted(out, b"ballot", u64::from(status.ballot))?;
-    put_word(out, if status.open { b"open" } else { b"shut" })
+    put_open(out, status.open)
+}
+
+// Begins the note.
+fn put_head(out: &mut Vec<u8>, own: u8, version: &str) -> Result<(), AllocError>
+    ensures { OnOk result (out.new.items
+        ≡ out.old.items ++ begun_note own (status_word ∷ codes "version" ∷ version.now ∷ [])) }
+{
+    put_front(out, own, b"status")?;
+    put_word(out, b"version")?;
+    put_word(out, version.as_bytes())
 }
 
 /// Notes how a node of this version stands, in answer to a request of this name. After a refusal a part of the note may
@@ -164,9 +193,7 @@ pub fn put_status(
 ) -> Result<(), AllocError>
     ensures { OnOk result (out.new.items ≡ out.old.items ++ status_note status.now version.now name.now) }
 {
-    put_front(out, status.own, b"status")?;
-    put_word(out, b"version")?;
-    put_word(out, version.as_bytes())?;
+    put_head(out, status.own, version)?;
     put_own(out, status)?;
     put_peers(out, &status.known, status.own, status.replicas)?;
     put_tally(out, &status.tally)?;
