@@ -21,5 +21,6 @@ pub mod FirstWords
 pub mod NumberedLines
 pub mod QuestionWords
 pub mod QuestionsBack
+pub mod QuestionGates
 pub mod QuestionLines
 pub mod NoteParts

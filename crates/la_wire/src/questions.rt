@@ -5,9 +5,11 @@ ghost use Rattle.la_script.specs.Numbers.{u8_max, u16_max, u64_max, number};
 ghost use Rattle.la_wire.specs.Questions.{tags_question, updates_question, question_asked, status_asked};
 ghost use Rattle.la_wire.specs.Questions.{question_by, question_in, taker_of, taken_by, take_by, take_in};
 ghost use Rattle.la_wire.specs.Questions.{awaited_line, awaited_by, awaited_in};
+ghost use Rattle.la_wire.specs.Requests.{front_word};
+ghost use Rattle.std.specs.Str.{bytes_eq};
 
 use crate::requests::SUBMIT;
-use la_script::{number, tag_of, words_of};
+use la_script::{number, split_once, tag_of, words_of};
 use la_set::UpdateId;
 use std::alloc::{AllocError, Global};
 
@@ -69,6 +71,14 @@ pub struct Awaited<'a> {
     pub after: UpdateId,
     /// The line without `at` and the id, and without the spaces before them.
     pub plain: &'a [u8],
+}
+
+// Whether a line's first word is this one.
+fn begins_with(line: &[u8], word: &[u8]) -> bool
+    ensures { result ≡ bytes_eq (front_word line.now) word.now }
+{
+    let (first, _) = split_once(line, b' ');
+    first == word
 }
 
 // A number of 8 bits, as a replica has.
@@ -143,8 +153,18 @@ fn question_by(words: &[&[u8]]) -> Option<Question>
 /// The question that a line is, by its words: `ask R O tags X`, `ask R O updates` or `status R`, with R of 8 bits, O of
 /// 16 and X of 64. Any other line is none, nor is one with a number there that is not canonical or is out of its range,
 /// of which the fault is found where the call is read. It takes memory for the words, at a cost linear in the line.
-#[tactic(auto, unfolding(crate::specs::Questions::question_in))]
+#[tactic(auto, using(crate::proofs::QuestionGates::no_question_here))]
 pub fn question_in(alloc: Global, line: &[u8]) -> Result<Option<Question>, AllocError>
+    ensures { IfOk result (λ q. q ≡ question_in line.now) }
+{
+    if !begins_with(line, STATUS) && !begins_with(line, ASK) {
+        return Ok(None);
+    }
+    question_by_words(alloc, line)
+}
+
+#[tactic(auto, unfolding(crate::specs::Questions::question_in))]
+fn question_by_words(alloc: Global, line: &[u8]) -> Result<Option<Question>, AllocError>
     ensures { IfOk result (λ q. q ≡ question_in line.now) }
 {
     let words = words_of(alloc, line)?;
@@ -188,8 +208,18 @@ fn take_by(words: &[&[u8]]) -> Option<Take>
 /// 1, O of 16 and X of 64. Any other line is none, nor is one with a number there that is not canonical or is out of its
 /// range, of which the fault is found where the call is read. It takes memory for the words, at a cost linear in the
 /// line.
-#[tactic(auto, unfolding(crate::specs::Questions::take_in))]
+#[tactic(auto, using(crate::proofs::QuestionGates::no_take_here))]
 pub fn take_in(alloc: Global, line: &[u8]) -> Result<Option<Take>, AllocError>
+    ensures { IfOk result (λ t. t ≡ take_in line.now) }
+{
+    if !begins_with(line, SUBMIT) {
+        return Ok(None);
+    }
+    take_by_words(alloc, line)
+}
+
+#[tactic(auto, unfolding(crate::specs::Questions::take_in))]
+fn take_by_words(alloc: Global, line: &[u8]) -> Result<Option<Take>, AllocError>
     ensures { IfOk result (λ t. t ≡ take_in line.now) }
 {
     let words = words_of(alloc, line)?;
@@ -210,8 +240,18 @@ fn awaited_by<'a>(line: &'a [u8], word: &[u8]) -> Option<Awaited<'a>>
 
 /// A question that waits apart, by its words: a line that begins with `ask` and ends with `at` and an id. Any other line
 /// is none. It takes memory for the words, at a cost linear in the line.
-#[tactic(auto, unfolding(crate::specs::Questions::awaited_in))]
+#[tactic(auto, using(crate::proofs::QuestionGates::nothing_awaited_here))]
 pub fn awaited_in<'a>(alloc: Global, line: &'a [u8]) -> Result<Option<Awaited<'a>>, AllocError>
+    ensures { IfOk result (λ a. option_map awaited_line a ≡ awaited_in line.now) }
+{
+    if !begins_with(line, ASK) {
+        return Ok(None);
+    }
+    awaited_by_words(alloc, line)
+}
+
+#[tactic(auto, unfolding(crate::specs::Questions::awaited_in))]
+fn awaited_by_words<'a>(alloc: Global, line: &'a [u8]) -> Result<Option<Awaited<'a>>, AllocError>
     ensures { IfOk result (λ a. option_map awaited_line a ≡ awaited_in line.now) }
 {
     let words = words_of(alloc, line)?;

@@ -1,10 +1,10 @@
 use Rattle.std.proofs.Common.{◌∙◌, ap, sym, rules}
 use Rattle.la_script.specs.Words.{bytes_of}
 use Rattle.la_wire.proofs.QuestionWords.{too_few, other_first, other_at, waits_for_none}
-use Rattle.la_wire.proofs.questions.awaited_in.Goals as goal
-use Rattle.la_wire.proofs.questions.awaited_in.Goals.{in_default-via-then-as_slice-lt3}
-use Rattle.la_wire.proofs.questions.awaited_in.Goals.{in_default-via-in-len3-up+then-eq+else-eq-2}
-use Rattle.la_wire.proofs.questions.awaited_in.Goals.{in_default-via-in-len3-up+else-eq}
+use Rattle.la_wire.proofs.questions.awaited_by_words.Goals as goal
+use Rattle.la_wire.proofs.questions.awaited_by_words.Goals.{in_default-via-then-as_slice-lt3}
+use Rattle.la_wire.proofs.questions.awaited_by_words.Goals.{in_default-via-in-len3-up+then-eq+else-eq-2}
+use Rattle.la_wire.proofs.questions.awaited_by_words.Goals.{in_default-via-in-len3-up+else-eq}
 
 pub returns : goal.returns
 returns c =
