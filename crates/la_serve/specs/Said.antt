@@ -128,7 +128,7 @@ status_by n known tally None = record {
   submitted = 0;
   waiting = 0;
   ballot = 0;
-  open = false;
+  asking = false;
   known = known;
   tally = tally;
 }
@@ -139,7 +139,7 @@ status_by n known tally (Some x) = record {
   submitted = submitted x.proposer;
   waiting = length x.proposer.waiting;
   ballot = if x.proposer.is_asking then x.proposer.number else 0;
-  open = x.proposer.is_asking;
+  asking = x.proposer.is_asking;
   known = known;
   tally = tally;
 }
@@ -208,7 +208,7 @@ IsSaidOfMessage n m (Some s) =
 -- an object of a kind takes its own operations, and marks
 abbrev pub takes : Kind → Op → Bool
 takes kind op.Mark = true
-takes kind op = is_of_kind kind op
+takes kind does = is_of_kind kind does
 
 -- by what an object of a kind that takes an operation can be asked
 abbrev pub query_for : Op → Option Query
@@ -222,8 +222,8 @@ query_for (op.Vote value sole) = None
 
 -- why an operation is none of an object's
 abbrev pub unfit : Option Kind → Op → Option Why
-unfit None op = Some why.NoSuchObject
-unfit (Some kind) op = if takes kind op then None else Some why.Foreign
+unfit None does = Some why.NoSuchObject
+unfit (Some kind) does = if takes kind does then None else Some why.Foreign
 
 -- that a submission was done under this number, or that another was, or none
 abbrev pub IsSaidNumbered : (own number : ℕ) → (name : List ℕ) → ObjectOp → Option ObjectOp → Said → Type 0

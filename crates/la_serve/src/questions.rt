@@ -136,7 +136,7 @@ fn status_of(machine: &NodeMachine, known: Links, tally: Tally) -> NodeStatus
         submitted: 0,
         waiting: 0,
         ballot: 0,
-        open: false,
+        asking: false,
         known,
         tally,
     };
@@ -145,7 +145,7 @@ fn status_of(machine: &NodeMachine, known: Links, tally: Tally) -> NodeStatus
         status.waiting = first.proposer.buffered();
         if let Status::Asking(ballot) = first.proposer.status() {
             status.ballot = ballot;
-            status.open = true;
+            status.asking = true;
         }
     }
     status

@@ -57,7 +57,7 @@ open_word is_open = if is_open then codes "open" else codes "shut"
 unfoldable pub own_words : NodeStatus → List (List ℕ)
 own_words s =
     progress_words s.progress ++ counted_words (codes "submitted") s.submitted
-    ++ counted_words (codes "waiting") s.waiting ++ counted_words (codes "ballot") s.ballot ++ open_word s.open ∷ []
+    ++ counted_words (codes "waiting") s.waiting ++ counted_words (codes "ballot") s.ballot ++ open_word s.asking ∷ []
 
 -- how a node of this version stands, in answer to a request of this name
 abbrev pub status_note : NodeStatus → (version name : List ℕ) → List ℕ

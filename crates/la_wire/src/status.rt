@@ -45,9 +45,9 @@ impl Kinds {
 /// What a process counted since it started.
 #[derive(Clone, Copy, Debug, PartialEq, Eq)]
 pub struct Tally {
-    /// The messages that came of other replicas.
+    /// The messages that came, also those for other replicas.
     pub received: Kinds,
-    /// The messages that were sent to other replicas.
+    /// The messages that were sent, also to the node itself.
     pub sent: Kinds,
     /// How many lines were refused.
     pub refused: u64,
@@ -85,10 +85,10 @@ pub struct NodeStatus {
     pub submitted: u32,
     /// How many of these wait for a ballot.
     pub waiting: u32,
-    /// The number of its last ballot in instance 0, or 0.
+    /// The number of its open ballot in instance 0; 0, where none is.
     pub ballot: u32,
-    /// Whether that ballot is open.
-    pub open: bool,
+    /// Whether one is open.
+    pub asking: bool,
     /// How far the others are, as far as it knows.
     pub known: Links,
     /// What its process counted.
@@ -170,7 +170,7 @@ fn put_own(out: &mut Vec<u8>, status: &NodeStatus) -> Result<(), AllocError>
     put_counted(out, b"submitted", u64::from(status.submitted))?;
     put_counted(out, b"waiting", u64::from(status.waiting))?;
     put_counted(out, b"ballot", u64::from(status.ballot))?;
-    put_open(out, status.open)
+    put_open(out, status.asking)
 }
 
 // Begins the note.

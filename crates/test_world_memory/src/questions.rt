@@ -221,7 +221,7 @@ fn status(counts: Counts) -> NodeStatus {
         submitted: 4,
         waiting: 2,
         ballot: 4294967295,
-        open: true,
+        asking: true,
         known,
         tally,
     }
@@ -253,7 +253,7 @@ fn puts_alone(alloc: Global) -> Came {
         submitted: 0,
         waiting: 0,
         ballot: 0,
-        open: false,
+        asking: false,
         known: Links::new(),
         tally: Tally::none(),
     };
