@@ -1,7 +1,8 @@
 -- A turn by what is said of its line.
-use Rattle.std.proofs.Common.{◌≡◌, ◌↔◌, ⊥, IsTrue, ℕ, Bool, true, false, ◌&&◌, [], List, append-nil, filter, take}
+use Rattle.std.proofs.Common.{◌≡◌, ◌↔◌, IsTrue, ℕ, Bool, true, false, ◌&&◌, [], List, append-nil, filter, take}
 use Rattle.std.proofs.Common.{get_or, ◌+◌, slice_get, Some, None, Option, refl, sym, ap, subst, ◌∙◌, inl, inr, length, leb}
-use Rattle.std.proofs.Common.{false≢true}
+use Rattle.std.proofs.Common.{◌==◌}
+use Rattle.std.proofs.lemmas.Bool.{false≢true}
 use Rattle.std.specs.List.{list_all}
 use Rattle.std.specs.Io.KnownBytes.{Appends}
 use Rattle.std.proofs.KnownBytes.{Appends-nil}

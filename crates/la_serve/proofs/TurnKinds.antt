@@ -1,6 +1,6 @@
 -- What a line's turn can be.
-use Rattle.std.proofs.Common.{◌≡◌, ◌⊎◌, inl, inr, ℕ, Bool, true, false, List, [], refl, ap, ◌∙◌, sym, subst, Option}
-use Rattle.std.proofs.Common.{Some, None, length, leb}
+use Rattle.std.proofs.Common.{◌≡◌, ◌⊎◌, inl, inr, ℕ, Bool, true, false, List, [], refl, sym, subst, Option}
+use Rattle.std.proofs.Common.{Some, None, length, leb, ◌==◌}
 use Rattle.la_set.specs.declared.tags.TheConstants.{MAX_TAGS}
 use Rattle.la_set.specs.declared.update.UpdateId.{UpdateId}
 use Rattle.la_object.specs.declared.kind.Kind.{Kind}
