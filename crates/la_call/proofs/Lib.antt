@@ -1,0 +1,4 @@
+pub mod Splits
+pub mod Printed
+pub mod Hearing
+pub mod Digits

@@ -1,0 +1,6 @@
+pub mod Words
+pub mod Faults
+pub mod Calls
+pub mod Asking
+pub mod Names
+pub mod Ends
