@@ -4,3 +4,4 @@ pub mod Calls
 pub mod Asking
 pub mod Names
 pub mod Ends
+pub mod Options

@@ -10,6 +10,7 @@ mod ending;
 mod error;
 mod forming;
 mod options;
+mod reading;
 mod waiting;
 mod words;
 
@@ -17,4 +18,8 @@ pub use calling::call;
 pub use ending::end_with;
 pub use error::CallFault;
 pub use options::CallOptions;
+pub use reading::command;
 pub use words::MAX_NAME;
+
+#[cfg(test)]
+mod tests;

@@ -1,4 +1,4 @@
-use Rattle.std.proofs.Common.{List, ℕ, ◌∷◌, []}
+use Rattle.std.proofs.Common.{◌∷◌, []}
 use Rattle.la_io.proofs.lemmas.Always.{always_err}
 use Rattle.la_io.proofs.lemmas.Fronts.{prefix_more}
 use Rattle.la_call.proofs.Printed.{prefix_then}

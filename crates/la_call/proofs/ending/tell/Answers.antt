@@ -1,7 +1,7 @@
-use Rattle.std.proofs.Common.{◌≡◌, Option, Some, None, List, ℕ, subst, sym, ap, option_map, rules, inl}
+use Rattle.std.proofs.Common.{List, ℕ, subst, sym, ap, option_map, rules, inl}
 use Rattle.std.specs.Borrow.{Bor}
 use Rattle.la_io.specs.Streams.{TellsLine}
-use Rattle.la_call.specs.Ends.{TellsFault, fault_line}
+use Rattle.la_call.specs.Ends.{TellsFault}
 use Rattle.la_call.proofs.ending.tell.Goals as goal
 
 pub returns-in-Some : goal.returns-in-Some

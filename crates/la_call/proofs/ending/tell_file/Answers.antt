@@ -1,6 +1,5 @@
-use Rattle.std.proofs.Common.{◌≡◌, Some, None, subst, rules, inl, inr}
+use Rattle.std.proofs.Common.{subst, rules, inl, inr}
 use Rattle.la_io.specs.Streams.{TellsLine}
-use Rattle.la_call.specs.Ends.{fault_line}
 use Rattle.la_call.proofs.ending.tell_file.Goals as goal
 
 pub returns-in-Ok : goal.returns-in-Ok

@@ -3,7 +3,6 @@ use Rattle.la_io.specs.Streams.{AppendsPrefix}
 use Rattle.std.specs.Io.KnownBytes.{Appends}
 use Rattle.la_call.specs.declared.error.CallFault.TheVariants.{WriteFault}
 use Rattle.la_call.specs.Asking.{asked_in, Steps}
-use Rattle.la_call.specs.Calls.{standing}
 use Rattle.la_call.proofs.Hearing.{begins, first_fails, goes_on, answered, fails, too_many}
 use Rattle.la_call.proofs.Printed.{if_err}
 use Rattle.la_call.proofs.waiting.await_answer.Goals as goal
