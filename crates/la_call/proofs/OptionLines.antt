@@ -9,9 +9,12 @@ use Rattle.clap.specs.Words.{AddsArg, Text, Row, Rule, all_of, fault_of, is_simp
 use Rattle.clap.specs.Words.{subcommand_of}
 use Rattle.clap.proofs.OnLiterals.{clap_on_literals}
 use Rattle.clap.specs.Takes.{is_given}
-use Rattle.clap.specs.Walk.{Held, answers_to, finished, has_row, nothing_held, row_text, rows_after, settled}
+use Rattle.clap.specs.Facts.{unwrap_or_range}
+use Rattle.clap.specs.declared.builder.action.ArgAction.TheVariants.{Set}
+use Rattle.clap.specs.Walk.{Held, action_of, answers_to, finished, has_row, nothing_held, row_text, rows_after, settled}
 use Rattle.clap.specs.Walk.{stop_after, walk, walk_from}
-use Rattle.clap.specs.Simple.{App, Shape, argument_words, built, entered, filled, label_of, names_of, new_shape, with_index}
+use Rattle.clap.specs.Simple.{App, Shape, argument_words, built, entered, filled, label_of, names_of, new_shape}
+use Rattle.clap.specs.Simple.{with_index}
 use Rattle.clap.specs.Simple.{rows_at}
 use Rattle.clap.specs.Kinds.{check_kinds}
 use Rattle.clap.specs.Faults.{check_fault, defaults_fault, entered_fault, level_fault, settle_fault, walk_fault}
@@ -20,9 +23,9 @@ use Rattle.clap.specs.declared.builder.command.Command.{Command}
 use Rattle.clap.specs.declared.builder.command.Command.TheViews.{out-Command}
 use Rattle.la_cli.proofs.lemmas.Entered.{IsNoHelp, enters_well, help_never}
 use Rattle.la_cli.proofs.lemmas.GivenNumbers.{some_is, some≢none}
-use Rattle.la_cli.proofs.lemmas.Faultless.{AllOne, defaults_there, level_reads, next_none, some_kinds}
+use Rattle.la_cli.proofs.lemmas.Faultless.{AllOne, IsOne, defaults_there, level_reads, next_none, some_kinds}
 use Rattle.la_cli.specs.Calls.{option}
-use Rattle.la_call.specs.Options.{AreCallOptions, lattice_call, text_option, words_rule}
+use Rattle.la_call.specs.Options.{AreCallRows, lattice_call, text_option, words_rule}
 
 -- the command with a version
 abbrev pub versioned : App → App
@@ -74,20 +77,67 @@ word_rule = with_index 1 (filled words_rule)
 abbrev before_wait : List Rule
 before_wait = filled (text_option (codes "in")) ∷ filled (text_option (codes "out")) ∷ []
 
+abbrev before_times : List Rule
+before_times = filled (text_option (codes "in")) ∷ filled (text_option (codes "out")) ∷ wait_rule ∷ []
+
 no : {X : Type 0} → false ≡ true → X
 no e = absurd (true≢false (sym e))
 
+-- another rule, and the rule itself
+other : {a b : Rule} → action_of b ≡ Set → (unwrap_or_range b.range).start_inclusive ≡ 1 → bytes_eq b.id a.id ≡ false
+    → IsOne a b
+other set one not = inr (set, one, λ e. no (sym not ∙ e))
+
+it : {a : Rule} → action_of a ≡ Set → (unwrap_or_range a.range).start_inclusive ≡ 1 → IsOne a a
+it set one = inr (set, one, λ e. refl)
+
 wait_alone : AllOne wait_rule rules
 unfolding clap_on_literals
-wait_alone = (inr (refl, refl, λ e. no e), (inr (refl, refl, λ e. no e), (inr (refl, refl, λ e. refl), (inr (refl, refl, λ e. no e), (inr (refl, refl, λ e. no e), (inr (refl, refl, λ e. no e), (inl refl, (inl refl, tt))))))))
+wait_alone = (
+  other refl refl refl,
+  (
+    other refl refl refl,
+    (
+      it refl refl,
+      (
+        other refl refl refl,
+        (other refl refl refl, (other refl refl refl, (inl refl, (inl refl, tt)))),
+      ),
+    ),
+  ),
+)
 
 times_alone : AllOne times_rule rules
 unfolding clap_on_literals
-times_alone = (inr (refl, refl, λ e. no e), (inr (refl, refl, λ e. no e), (inr (refl, refl, λ e. no e), (inr (refl, refl, λ e. refl), (inr (refl, refl, λ e. no e), (inr (refl, refl, λ e. no e), (inl refl, (inl refl, tt))))))))
+times_alone = (
+  other refl refl refl,
+  (
+    other refl refl refl,
+    (
+      other refl refl refl,
+      (
+        it refl refl,
+        (other refl refl refl, (other refl refl refl, (inl refl, (inl refl, tt)))),
+      ),
+    ),
+  ),
+)
 
 word_alone : AllOne word_rule rules
 unfolding clap_on_literals
-word_alone = (inr (refl, refl, λ e. no e), (inr (refl, refl, λ e. no e), (inr (refl, refl, λ e. no e), (inr (refl, refl, λ e. no e), (inr (refl, refl, λ e. no e), (inr (refl, refl, λ e. refl), (inl refl, (inl refl, tt))))))))
+word_alone = (
+  other refl refl refl,
+  (
+    other refl refl refl,
+    (
+      other refl refl refl,
+      (
+        other refl refl refl,
+        (other refl refl refl, (it refl refl, (inl refl, (inl refl, tt)))),
+      ),
+    ),
+  ),
+)
 
 -- ---- what is required is there
 
@@ -138,14 +188,14 @@ module _ (words : List Text) (faultless : level_fault shape [] nothing_held word
       let check = next_none (defaults_fault (settled rules end).rows rules) _ defaults in
       or_first _ _ (none_missing shape (finished rules end) check)
 
-  all_taken : AreCallOptions (rows_after rules [] words)
+  all_taken : AreCallRows (rows_after rules [] words)
   unfolding clap_on_literals end rows
   all_taken =
       let start = (settled rules end).rows in
       let wait = level_reads wait_rule shape [] words false [] wait_alone
       (defaults_there wait_rule (codes "0") [] before_wait (drop 3 rules) start refl refl) faultless in
       let times = level_reads times_rule shape [] words false [] times_alone
-      (defaults_there times_rule (codes "5") [] (filled (text_option (codes "in")) ∷ filled (text_option (codes "out")) ∷ wait_rule ∷ []) (drop 4 rules) start refl refl) faultless in
+      (defaults_there times_rule (codes "5") [] before_times (drop 4 rules) start refl refl) faultless in
       let word = level_reads word_rule shape [] words false [] word_alone
       (given_there (codes "word") rows (not_false _ word_given)) faultless in
       record {
@@ -156,7 +206,7 @@ module _ (words : List Text) (faultless : level_fault shape [] nothing_held word
 
 -- what is named is a call, with all that it needs
 abbrev pub NamesCall : Option (Text × List Row) → Type 0
-NamesCall o = (rows : List Row) × (o ≡ Some (codes "call", rows)) × AreCallOptions rows
+NamesCall o = (rows : List Row) × (o ≡ Some (codes "call", rows)) × AreCallRows rows
 
 named_at : (stop : Option (Text × List Text)) → entered_fault whole stop ≡ [] → is_some (entered whole stop) ≡ true
     → IsNoHelp stop → NamesCall (entered whole stop)
@@ -186,15 +236,15 @@ faultless_call words e =
     enters.no_help
 
 some_rows : (o : Option (Text × List Row)) (rows : List Row) → option_map (λ p. p.1) o ≡ Some rows → NamesCall o
-    → (o ≡ Some (codes "call", rows)) × AreCallOptions rows
+    → (o ≡ Some (codes "call", rows)) × AreCallRows rows
 some_rows o rows is named =
     let same : named.0 ≡ rows = some_is _ _ (ap (option_map (λ p. p.1)) (sym named.1) ∙ is) in
-    (named.1 ∙ ap (λ (r : List Row). Some (codes "call", r)) same, subst AreCallOptions same named.2)
+    (named.1 ∙ ap (λ (r : List Row). Some (codes "call", r)) same, subst AreCallRows same named.2)
 
 -- the rows of the subcommand that was entered are a call's
 pub rows_are_taken : (words : List Text) (rows : List Row) → fault_of lattice_call words ≡ []
     → option_map (λ p. p.1) (subcommand_of lattice_call words) ≡ Some rows
-    → (subcommand_of lattice_call words ≡ Some (codes "call", rows)) × AreCallOptions rows
+    → (subcommand_of lattice_call words ≡ Some (codes "call", rows)) × AreCallRows rows
 rows_are_taken words rows faultless is =
     some_rows (subcommand_of lattice_call words) rows is (faultless_call words faultless)
 

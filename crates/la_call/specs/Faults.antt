@@ -4,6 +4,6 @@ use Rattle.la_io.specs.declared.source.SourceFault.TheVariants as source
 use Rattle.la_call.specs.declared.error.CallFault.{CallFault}
 use Rattle.la_call.specs.declared.error.CallFault.TheVariants.{ReadFault, Memory}
 
-abbrev pub of_source : SourceFault → CallFault
-of_source source.ReadFault = ReadFault
-of_source source.Memory = Memory
+abbrev pub of_source_fault : SourceFault → CallFault
+of_source_fault source.ReadFault = ReadFault
+of_source_fault source.Memory = Memory

@@ -8,7 +8,7 @@ use Rattle.clap.specs.Lexer.{usize_max}
 use Rattle.clap.specs.declared.builder.action.ArgAction.TheVariants.{Set}
 use Rattle.la_cli.specs.Calls.{IsGiven, IsNumberTaken, lattice_alone, option}
 use Rattle.la_call.specs.declared.options.CallOptions.{CallOptions}
-use Rattle.la_call.specs.Words.{is_name, is_request}
+use Rattle.la_call.specs.Words.{is_request_name, is_request}
 
 -- ## The command line
 
@@ -56,35 +56,35 @@ lattice_call = with_subcommand lattice_alone call.top
 -- ## The request
 
 -- each word with the space before it
-abbrev pub spaced : List Text → Text
-spaced [] = []
-spaced (word ∷ words) = 32 ∷ word ++ spaced words
+abbrev pub spaced_words : List Text → Text
+spaced_words [] = []
+spaced_words (word ∷ words) = 32 ∷ word ++ spaced_words words
 
 -- the words with single spaces between them
-abbrev pub joined : List Text → Text
-joined [] = []
-joined (word ∷ words) = word ++ spaced words
+abbrev pub joined_words : List Text → Text
+joined_words [] = []
+joined_words (word ∷ words) = word ++ spaced_words words
 
 -- the words are this request
 pub record AreRequest (rows : List Row) (request : Text) : Type 0 where
   pub words : List Text
   pub given : all_of (codes "word") rows ≡ Some words
-  pub is : request ≡ joined words
+  pub is : request ≡ joined_words words
 
 -- a name, where one was given, is one
 abbrev pub is_well_named : List Row → Bool
-is_well_named rows = option_map_or is_name (first_of (codes "name") rows) true
+is_well_named rows = option_map_or is_request_name (first_of (codes "name") rows) true
 
 -- ## What it says
 
 -- a text in its range stands for each number, and there is a word
-pub record AreCallOptions (rows : List Row) : Type 0 where
+pub record AreCallRows (rows : List Row) : Type 0 where
   pub wait : IsNumberTaken rows (codes "wait") 0 3600
   pub times : IsNumberTaken rows (codes "times") 1 1000
   pub words : (word : Text) × (one_of (codes "word") rows ≡ Some word)
 
 -- the options are those that were given, or their defaults, each in its range
-pub record AreOptions (rows : List Row) (options : CallOptions) : Type 0 where
+pub record IsCallGiven (rows : List Row) (options : CallOptions) : Type 0 where
   pub input_given : option_map string_bytes options.input ≡ first_of (codes "in") rows
   pub output_given : option_map string_bytes options.output ≡ first_of (codes "out") rows
   pub wait_given : IsGiven rows (codes "wait") options.wait
@@ -100,13 +100,13 @@ SaysRequest rows None = (request : Text) × AreRequest rows request × (is_reque
 SaysRequest rows (Some request) = AreRequest rows request × (is_request request ≡ true)
 
 -- the same, or there are none, and the name or the request is none
-abbrev pub SaysOptions : (rows : List Row) → Option CallOptions → Type 0
-SaysOptions rows None = (is_well_named rows ≡ false) ⊎ SaysRequest rows None
-SaysOptions rows (Some options) = AreOptions rows options
+abbrev pub SaysGiven : (rows : List Row) → Option CallOptions → Type 0
+SaysGiven rows None = (is_well_named rows ≡ false) ⊎ SaysRequest rows None
+SaysGiven rows (Some options) = IsCallGiven rows options
 
 -- nothing is wrong with the words, and they name a call, of which they say this
-pub record IsSaid (words : List Text) (said : Option CallOptions) : Type 0 where
+pub record IsCallSaid (words : List Text) (said : Option CallOptions) : Type 0 where
   pub faultless : fault_of lattice_call words ≡ []
   pub rows : List Row
   pub named : subcommand_of lattice_call words ≡ Some (codes "call", rows)
-  pub says : SaysOptions rows said
+  pub says : SaysGiven rows said

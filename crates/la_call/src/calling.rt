@@ -1,9 +1,9 @@
 // A request is asked, and its answer printed.
 ghost use Rattle.std.specs.Prelude.{◌≡◌, ◌++◌, ◌∷◌, [], IfOk, OnOk, OnErr};
-ghost use Rattle.la_call.specs.Asking.{asked_in};
-ghost use Rattle.la_call.specs.Calls.{asked_by};
+ghost use Rattle.la_call.specs.Asking.{plan_in};
+ghost use Rattle.la_call.specs.Calls.{plan_by};
 ghost use Rattle.la_io.specs.Streams.{Writes, WritesPrefix};
-ghost use Rattle.la_call.specs.Ends.{CallEnds, Prints, answer_status, streams};
+ghost use Rattle.la_call.specs.Ends.{CallEnds, Prints, answer_status, handed};
 ghost use Rattle.la_call.specs.Names.{name_by as name_for};
 
 use crate::asking::Asking;
@@ -18,7 +18,7 @@ use std::io::{Read, Write};
 
 // The request with its name.
 fn form(alloc: Global, options: &CallOptions, drawn: &[u8; 8]) -> Result<Asking, AllocError>
-    ensures { IfOk result (λ a. asked_in a ≡ asked_by options.now (name_for options.now drawn.now)) }
+    ensures { IfOk result (λ a. plan_in a ≡ plan_by options.now (name_for options.now drawn.now)) }
 {
     let name = name_by(alloc, options, drawn)?;
     ask(alloc, options, &name)
@@ -68,7 +68,7 @@ pub fn call<R: Read, W: Write, A: Write, E: Listener>(
     answers: &mut A,
     errors: &mut E,
 ) -> u8
-    ensures { CallEnds E.contents E.refuses options.now (name_for options.now drawn.now) (streams (R.remaining input.old) (W.contents output.old) (A.contents answers.old) errors.old) (streams (R.remaining input.new) (W.contents output.new) (A.contents answers.new) errors.new) result }
+    ensures { CallEnds R.remaining W.contents A.contents E.contents E.refuses options.now drawn.now (handed input.old output.old answers.old errors.old) (handed input.new output.new answers.new errors.new) result }
 {
     let Ok(asking) = form(alloc, options, drawn) else {
         return end_with(alloc, CallFault::Memory, None, errors);

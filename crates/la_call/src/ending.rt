@@ -1,6 +1,6 @@
 // How a call ends without an answer.
 ghost use Rattle.std.specs.Prelude.{◌≡◌, Some, None, IfOk, option_map};
-ghost use Rattle.la_call.specs.Ends.{call_status, call_name, fault_line, path_of, TellsFault};
+ghost use Rattle.la_call.specs.Ends.{call_status, call_name, call_fault_line, path_of, TellsCallFault};
 
 use crate::{CallFault, CallOptions};
 use la_io::{Listener, tell_all};
@@ -32,7 +32,7 @@ fn name_of(fault: CallFault) -> &'static str
 
 // The line that tells of a fault without a file.
 fn short_line(fault: CallFault) -> &'static [u8]
-    ensures { result.now ≡ fault_line fault None }
+    ensures { result.now ≡ call_fault_line fault None }
 {
     match fault {
         CallFault::ReadFault => b"lattice call: ReadFault\n",
@@ -45,7 +45,7 @@ fn short_line(fault: CallFault) -> &'static [u8]
 
 // And of a fault of a file.
 fn file_line(alloc: Global, fault: CallFault, path: &str) -> Result<Vec<u8>, AllocError>
-    ensures { IfOk result (λ line. line.items ≡ fault_line fault (Some path.now)) }
+    ensures { IfOk result (λ line. line.items ≡ call_fault_line fault (Some path.now)) }
 {
     let mut line = Vec::new(alloc);
     line.extend_from_slice(b"lattice call: ")?;
@@ -58,7 +58,7 @@ fn file_line(alloc: Global, fault: CallFault, path: &str) -> Result<Vec<u8>, All
 
 // Tells of a fault of a file: without it, where there is no memory for that.
 fn tell_file<E: Listener>(alloc: Global, fault: CallFault, path: &str, errors: &mut E)
-    ensures { TellsFault E.contents E.refuses errors.old errors.new fault (Some path.now) }
+    ensures { TellsCallFault E.contents E.refuses errors.old errors.new fault (Some path.now) }
 {
     let _ = match file_line(alloc, fault, path) {
         Ok(line) => tell_all(errors, &line),
@@ -68,7 +68,7 @@ fn tell_file<E: Listener>(alloc: Global, fault: CallFault, path: &str, errors: &
 
 // Tells of a fault, and of its file, where it has one.
 fn tell<E: Listener>(alloc: Global, fault: CallFault, path: Option<&str>, errors: &mut E)
-    ensures { TellsFault E.contents E.refuses errors.old errors.new fault (option_map (λ p. p.now) path.entry) }
+    ensures { TellsCallFault E.contents E.refuses errors.old errors.new fault (option_map (λ p. p.now) path.entry) }
 {
     match path {
         Some(path) => tell_file(alloc, fault, path, errors),
@@ -87,7 +87,7 @@ pub fn end_with<E: Listener>(
     errors: &mut E,
 ) -> u8
     ensures status { result ≡ call_status fault }
-    ensures told { TellsFault E.contents E.refuses errors.old errors.new fault (option_map (λ p. p.now) path.entry) }
+    ensures told { TellsCallFault E.contents E.refuses errors.old errors.new fault (option_map (λ p. p.now) path.entry) }
 {
     tell(alloc, fault, path, errors);
     status_of(fault)

@@ -1,6 +1,6 @@
 ghost use Rattle.std.specs.Prelude.{◌≡◌};
 ghost use Rattle.la_call.specs.declared.error.CallFault.TheVariants.{WriteFault};
-ghost use Rattle.la_call.specs.Faults.{of_source};
+ghost use Rattle.la_call.specs.Faults.{of_source_fault};
 
 use la_io::{SourceFault, WriteFailed};
 use thiserror::Error;
@@ -30,7 +30,7 @@ pub enum CallFault {
 }
 
 impl From<SourceFault> for CallFault {
-    ghost from_gives = { λ fault e. e ≡ of_source fault };
+    ghost from_gives = { λ fault e. e ≡ of_source_fault fault };
 
     fn from(fault: SourceFault) -> CallFault {
         match fault {

@@ -1,8 +1,8 @@
 // A request as it is written, under its name.
 ghost use Rattle.std.specs.Prelude.{◌≡◌, ◌++◌, ◌∷◌, [], ◌<◌, IfOk};
-ghost use Rattle.la_call.specs.Asking.{asked_in};
-ghost use Rattle.la_call.specs.Calls.{asked_by};
-ghost use Rattle.la_call.specs.Names.{hex_digit, hex, name_by};
+ghost use Rattle.la_call.specs.Asking.{plan_in};
+ghost use Rattle.la_call.specs.Calls.{plan_by};
+ghost use Rattle.la_call.specs.Names.{hex_digit, hex_digits, name_by};
 ghost use Rattle.la_call.specs.Words.{mark_of};
 
 use crate::CallOptions;
@@ -20,7 +20,7 @@ fn hex_digit(n: u8) -> u8
 
 // The digits of bytes.
 fn hex(alloc: Global, bytes: &[u8]) -> Result<Vec<u8>, AllocError>
-    ensures { IfOk result (λ digits. digits.items ≡ hex bytes.now) }
+    ensures { IfOk result (λ digits. digits.items ≡ hex_digits bytes.now) }
 {
     let mut digits = Vec::new(alloc);
     for byte in bytes {
@@ -65,7 +65,7 @@ fn sent_of(alloc: Global, request: &[u8], mark: &[u8]) -> Result<Vec<u8>, AllocE
 
 // The request under this name.
 pub(crate) fn ask(alloc: Global, options: &CallOptions, name: &[u8]) -> Result<Asking, AllocError>
-    ensures { IfOk result (λ a. asked_in a ≡ asked_by options.now name.now) }
+    ensures { IfOk result (λ a. plan_in a ≡ plan_by options.now name.now) }
 {
     let request = options.request.as_bytes();
     let mark = mark_of(alloc, name)?;

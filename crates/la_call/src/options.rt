@@ -1,7 +1,7 @@
 // The type alone: what cites it names its invariants.
 ghost use Rattle.std.specs.Prelude.{◌≡◌, ◌≤◌, true, string_bytes};
 ghost use Rattle.std.specs.Option.{ForSome};
-ghost use Rattle.la_call.specs.Words.{is_name, is_request};
+ghost use Rattle.la_call.specs.Words.{is_request_name, is_request};
 
 /// What a call is called with.
 #[derive(Drop)]
@@ -19,6 +19,6 @@ pub struct CallOptions {
     /// The request, without a name.
     pub request: String,
     ghost some: { 1 ≤ times },
-    ghost named: { ForSome name (λ n. is_name (string_bytes n) ≡ true) },
+    ghost named: { ForSome name (λ n. is_request_name (string_bytes n) ≡ true) },
     ghost asks: { is_request (string_bytes request) ≡ true },
 }

@@ -4,8 +4,8 @@ ghost use Rattle.clap.specs.Words.{app_of, found_of, rows_of, rule_of, HasKind, 
 ghost use Rattle.clap.specs.Words.{first_of, with_subcommand};
 ghost use Rattle.clap.specs.declared.builder.command.Command.TheViews.{out-Command as fields_of};
 ghost use Rattle.la_cli.specs.Calls.{lattice_alone};
-ghost use Rattle.la_call.specs.Options.{text_option, words_rule, call as call_app, lattice_call, joined, spaced, call_named};
-ghost use Rattle.la_call.specs.Options.{AreCallOptions, IsSaid, SaysOptions, SaysRequest, is_well_named};
+ghost use Rattle.la_call.specs.Options.{text_option, words_rule, call as call_app, lattice_call, joined_words, spaced_words, call_named};
+ghost use Rattle.la_call.specs.Options.{AreCallRows, IsCallSaid, SaysGiven, SaysRequest, is_well_named};
 
 use crate::CallOptions;
 use crate::words::{is_name, is_request};
@@ -16,32 +16,33 @@ use std::alloc::{AllocError, Global};
 const ABOUT: &str =
     "Writes a request to a node, and prints the answer: lattice call --out to0 submit 0 1 inc 5";
 
-const READS: &str = "Where the answer is read: a file or a fifo, in place of standard input";
+const READS: &str = "Where the answer is read, in place of standard input: a file or a fifo";
 
 const WRITES: &str =
-    "Where the request is written: a file or a fifo that is there, in place of standard output; \
-    opened first";
+    "Where the request is written, in place of standard output: a file or a fifo that exists";
 
-const WAITS: &str =
-    "Seconds without a line until a time-out, 0 to 3600; 0 is never. A line `tick` that is read is one \
-    too. The next time-out takes twice as long, up to a minute, and any line that is read begins anew";
+const WAITS: &str = "Seconds without a line until a time-out, 0 to 3600; 0 is never";
 
-const REPEATS: &str =
-    "How often the request is written at most, 1 to 1000: at each time-out, if it is `ask`, `status`, \
-    `decide` or `submit R.K`, and any other once. The next time-out ends the call";
+const REPEATS: &str = "How often a request is written at most that may be repeated, 1 to 1000";
 
 const NAMES: &str =
-    "1 to 32 letters, digits, or `_.:-`, which the answer ends in; drawn where it is left out";
+    "What the answer ends in: 1 to 32 letters, digits or `_.:-`; drawn where it is left out";
 
 const WORDS: &str = "The request, without LF and `@`";
 
 const AFTER: &str = "\
-The answer is the first line that begins with `#` and ends in ` @NAME`, but for `# rR waiting ..`, at which a node is to \
-be asked again: that the next time-out does. It is printed on standard output, or on standard error where the request \
-was written on standard output.
+The answer is the first line that begins with `#` and ends in ` @NAME`, but for `# rR waiting ..`, behind
+which the request is to be written again. It is printed on standard output; where the request was written
+there, on standard error.
 
-Exit status: 0, or 1 where the answer is `# rR refused ..`; 2 for words that are no call; 3 without memory; 4 where a \
-stream fails; 6 where the input or the waiting ends without an answer.";
+At a time-out the request is written again, if it is `ask`, `status`, `decide` or `submit R.K`, and was
+not so often; else the call ends. The next time-out takes twice as long, up to a minute, and each line
+that comes, another's too, begins anew. A line `tick` that is read is a time-out too.
+
+--out is opened before --in, and a fifo is open once another process has its other end.
+
+Exit status: 0; 1 where the answer is `# rR refused ..`; 2 where the words are no call; 3 for want of
+memory; 4 where a stream fails; 6 where the input or the waiting ends without an answer.";
 
 // An option with a text.
 fn text<'a>(alloc: Global, name: &'a str, value: &'a str, help: &'a str) -> Arg<'a>
@@ -146,7 +147,7 @@ fn is_well_named(given: &ArgMatches<'_>) -> bool
 
 // Puts each word behind a space.
 fn put_spaced(request: &mut String, words: &[&str]) -> Result<(), AllocError>
-    ensures { OnOk result (string_bytes request.new ≡ string_bytes request.old ++ spaced (map (λ w. w.now) words.now)) }
+    ensures { OnOk result (string_bytes request.new ≡ string_bytes request.old ++ spaced_words (map (λ w. w.now) words.now)) }
 {
     for word in words {
         request.push(' ')?;
@@ -157,7 +158,7 @@ fn put_spaced(request: &mut String, words: &[&str]) -> Result<(), AllocError>
 
 // The words with single spaces between them.
 fn joined(alloc: Global, words: &[&str]) -> Result<String, AllocError>
-    ensures { IfOk result (λ request. string_bytes request ≡ joined (map (λ w. w.now) words.now)) }
+    ensures { IfOk result (λ request. string_bytes request ≡ joined_words (map (λ w. w.now) words.now)) }
 {
     let Some((first, rest)) = words.split_first() else {
         return Ok(String::new(alloc));
@@ -169,7 +170,7 @@ fn joined(alloc: Global, words: &[&str]) -> Result<String, AllocError>
 
 // The request that the words are, where they are one.
 fn request_in(alloc: Global, given: &ArgMatches<'_>) -> Result<Option<String>, AllocError>
-    requires { AreCallOptions (rows_of (found_of given.now)) }
+    requires { AreCallRows (rows_of (found_of given.now)) }
     ensures { IfOk result (λ request. SaysRequest (rows_of (found_of given.now)) (option_map string_bytes request)) }
 {
     let words = given.get_strs("word").unwrap();
@@ -183,8 +184,8 @@ fn request_in(alloc: Global, given: &ArgMatches<'_>) -> Result<Option<String>, A
 
 // The options, each number of which is there and in its range.
 fn options_in(alloc: Global, given: &ArgMatches<'_>) -> Result<Option<CallOptions>, AllocError>
-    requires { AreCallOptions (rows_of (found_of given.now)) }
-    ensures { IfOk result (SaysOptions (rows_of (found_of given.now))) }
+    requires { AreCallRows (rows_of (found_of given.now)) }
+    ensures { IfOk result (SaysGiven (rows_of (found_of given.now))) }
 {
     let wait = given.get_one::<u16>("wait").unwrap();
     let times = given.get_one::<u16>("times").unwrap();
@@ -215,7 +216,7 @@ fn options_in(alloc: Global, given: &ArgMatches<'_>) -> Result<Option<CallOption
 /// as `help call`, or they are mistaken, as all words are that name another subcommand. Or its kind is `OutOfMemory`,
 /// which comes of memory alone.
 pub fn command(alloc: Global, words: &[String]) -> Result<Option<CallOptions>, Error>
-    ensures ok { IfOk result (IsSaid (map string_bytes words.now)) }
+    ensures ok { IfOk result (IsCallSaid (map string_bytes words.now)) }
     ensures error { IfErr result (HasKind (fault_of lattice_call (map string_bytes words.now))) }
 {
     let matches = program(alloc)?.try_get_matches_from(words)?;

@@ -3,8 +3,8 @@ ghost use Rattle.std.specs.Prelude.{◌≡◌, ◌≤◌, true, false, IfOk, IfE
 ghost use Rattle.std.specs.Io.KnownBytes.{IsAtEnd};
 ghost use Rattle.la_io.specs.Limits.{is_too_long};
 ghost use Rattle.la_io.specs.Sources.{ahead};
-ghost use Rattle.la_call.specs.Asking.{asked_in, IsHeard, Steps, StepFails, WritesAgain, WritesNotAgain};
-ghost use Rattle.la_call.specs.Calls.{IsAnswered, IsUnanswered, standing};
+ghost use Rattle.la_call.specs.Asking.{plan_in, placed, IsHeardAs, Steps, StepFails, WritesAgain, WritesNotAgain};
+ghost use Rattle.la_call.specs.Calls.{IsAnswered, IsUnanswered};
 
 use crate::CallFault;
 use crate::asking::Asking;
@@ -25,7 +25,7 @@ pub(crate) enum Heard {
 // What a line is that was taken.
 fn hear(asking: &Asking, line: &[u8]) -> Heard
     requires { is_too_long line.now ≡ false }
-    ensures { IsHeard (asked_in asking.now) line.now result }
+    ensures { IsHeardAs (plan_in asking.now) line.now result }
 {
     if is_answer(&asking.mark, line) && !is_waiting(line) {
         Heard::Answer
@@ -39,8 +39,8 @@ fn hear(asking: &Asking, line: &[u8]) -> Heard
 // Writes the request again, which was written so often. Answers how often it was by then.
 fn write_again<W: Write>(asking: &Asking, tries: u16, output: &mut W) -> Result<u16, CallFault>
     requires { tries ≤ asking.now.most }
-    ensures ok { IfOk result (WritesAgain (asked_in asking.now) (W.contents output.old) (W.contents output.new) tries) }
-    ensures err { IfErr result (WritesNotAgain (asked_in asking.now) (W.contents output.old) (W.contents output.new) tries) }
+    ensures ok { IfOk result (WritesAgain (plan_in asking.now) (W.contents output.old) (W.contents output.new) tries) }
+    ensures err { IfErr result (WritesNotAgain (plan_in asking.now) (W.contents output.old) (W.contents output.new) tries) }
 {
     if tries == asking.most {
         return Err(CallFault::NoAnswer);
@@ -60,8 +60,8 @@ fn step<R: Read, W: Write>(
 ) -> Result<Option<u16>, CallFault>
     requires few { tries ≤ asking.now.most }
     requires over { source.old.over ≡ true → IsAtEnd (ahead source.old (R.remaining input.old)) }
-    ensures ok { IfOk result (Steps (asked_in asking.now) (standing (ahead source.old (R.remaining input.old)) (W.contents output.old)) (standing (ahead source.new (R.remaining input.new)) (W.contents output.new)) source.new.line.items tries) }
-    ensures err { IfErr result (StepFails (asked_in asking.now) (standing (ahead source.old (R.remaining input.old)) (W.contents output.old)) (standing (ahead source.new (R.remaining input.new)) (W.contents output.new)) tries) }
+    ensures ok { IfOk result (Steps (plan_in asking.now) (placed R.remaining W.contents source.old input.old output.old) (placed R.remaining W.contents source.new input.new output.new) source.new.line.items tries) }
+    ensures err { IfErr result (StepFails (plan_in asking.now) (placed R.remaining W.contents source.old input.old output.old) (placed R.remaining W.contents source.new input.new output.new) tries) }
     ensures over { source.new.over ≡ true → IsAtEnd (ahead source.new (R.remaining input.new)) }
 {
     match source.next(input)? {
@@ -83,8 +83,8 @@ pub(crate) fn await_answer<R: Read, W: Write>(
     output: &mut W,
 ) -> Result<(), CallFault>
     requires over { source.old.over ≡ true → IsAtEnd (ahead source.old (R.remaining input.old)) }
-    ensures ok { OnOk result (IsAnswered (asked_in asking.now) (standing (ahead source.old (R.remaining input.old)) (W.contents output.old)) (standing (ahead source.new (R.remaining input.new)) (W.contents output.new)) source.new.line.items) }
-    ensures err { IfErr result (IsUnanswered (asked_in asking.now) (standing (ahead source.old (R.remaining input.old)) (W.contents output.old)) (standing (ahead source.new (R.remaining input.new)) (W.contents output.new))) }
+    ensures ok { OnOk result (IsAnswered (plan_in asking.now) (placed R.remaining W.contents source.old input.old output.old) (placed R.remaining W.contents source.new input.new output.new) source.new.line.items) }
+    ensures err { IfErr result (IsUnanswered (plan_in asking.now) (placed R.remaining W.contents source.old input.old output.old) (placed R.remaining W.contents source.new input.new output.new)) }
 {
     write_all(output, &asking.sent)?;
     let mut tries = 1;

@@ -1,27 +1,27 @@
 // Requests, their names, and which lines answer them, as bytes.
 ghost use Rattle.std.specs.Prelude.{◌≡◌, ◌==◌, ◌||◌, not, position, codes};
 ghost use Rattle.std.specs.List.{list_all, list_any};
-ghost use Rattle.la_call.specs.Words.{is_name_byte, is_name, is_request, front_word, behind_word, begins_with};
+ghost use Rattle.la_call.specs.Words.{is_request_name_byte, is_request_name, is_request, first_word, past_first, is_first_word};
 ghost use Rattle.la_call.specs.Words.{is_numbered, may_repeat, ends_in, is_answer, third_word, is_refusal, is_waiting};
 
 /// How many bytes the name of a request may have.
 pub const MAX_NAME: usize = 32;
 
 fn is_name_byte(b: u8) -> bool
-    ensures { result ≡ is_name_byte b }
+    ensures { result ≡ is_request_name_byte b }
 {
     b.is_ascii_alphanumeric() || b == b'_' || b == b'.' || b == b':' || b == b'-'
 }
 
 fn are_name_bytes(bytes: &[u8]) -> bool
-    ensures { result ≡ list_all is_name_byte bytes.now }
+    ensures { result ≡ list_all is_request_name_byte bytes.now }
 {
     bytes.iter().all(|b| is_name_byte(*b))
 }
 
 // 1 to 32 letters, digits, `_`, `.`, `:` or `-`.
 pub(crate) fn is_name(bytes: &[u8]) -> bool
-    ensures { result ≡ is_name bytes.now }
+    ensures { result ≡ is_request_name bytes.now }
 {
     if bytes.is_empty() || bytes.len() > MAX_NAME {
         return false;
@@ -51,8 +51,8 @@ fn space_in(line: &[u8]) -> Option<usize>
 // A line's first word, and what stands behind it.
 #[tactic(auto, using(crate::proofs::Splits::splits))]
 fn split_word(line: &[u8]) -> (&[u8], &[u8])
-    ensures front { result.0.now ≡ front_word line.now }
-    ensures behind { result.1.now ≡ behind_word line.now }
+    ensures front { result.0.now ≡ first_word line.now }
+    ensures behind { result.1.now ≡ past_first line.now }
 {
     match space_in(line) {
         Some(end) => (&line[..end], &line[end + 1..]),
@@ -61,7 +61,7 @@ fn split_word(line: &[u8]) -> (&[u8], &[u8])
 }
 
 fn begins_with(word: &[u8], line: &[u8]) -> bool
-    ensures { result ≡ begins_with word.now line.now }
+    ensures { result ≡ is_first_word word.now line.now }
 {
     split_word(line).0 == word
 }

@@ -1,8 +1,8 @@
 use Rattle.std.proofs.Common.{refl, subst, inl, inr, List, ℕ}
 use Rattle.la_io.specs.Sources.{ahead, pending}
-use Rattle.la_call.specs.Asking.{asked_in}
-use Rattle.la_call.specs.Calls.{asked_by, standing}
-use Rattle.la_call.specs.Ends.{Prints, TellsFault}
+use Rattle.la_call.specs.Asking.{plan_in}
+use Rattle.la_call.specs.Calls.{plan_by, standing}
+use Rattle.la_call.specs.Ends.{Prints, TellsCallFault}
 use Rattle.la_call.specs.Names.{name_by as name_for}
 use Rattle.la_call.proofs.Hearing.{answered_from, unanswered_from}
 use Rattle.la_call.proofs.calling.call.Goals as goal
@@ -17,14 +17,14 @@ returns g c =
       fault = c.in-Err.fault;
       unheard = pending c.await_answer.new.source;
       unanswered =
-          unanswered_from (asked_in c.in-Ok.asking)
-          (asked_by c.args.options.now (name_for c.args.options.now c.args.drawn.now)) c.in-Ok.ensures
+          unanswered_from (plan_in c.in-Ok.asking)
+          (plan_by c.args.options.now (name_for c.args.options.now c.args.drawn.now)) c.in-Ok.ensures
           (pending c.new-source.result) c.new-source.ensures.nothing (g.R.Read.remaining c.args.input.now)
           (g.W.Write.contents c.args.output.now) end c.in-Err.fault c.in-Err.ensures.err;
       unprinted = refl {a = g.A.Write.contents c.args.answers.now};
       told =
           subst
-          (TellsFault g.E.Write.contents g.E.Listener.refuses c.args.errors.now c.end_with-in-Err.new.errors
+          (TellsCallFault g.E.Write.contents g.E.Listener.refuses c.args.errors.now c.end_with-in-Err.new.errors
           c.in-Err.fault)
           c.path_of.ensures c.end_with-in-Err.ensures.told;
       is = c.end_with-in-Err.ensures.status;
@@ -39,8 +39,8 @@ returns-in-Ok-await_answer g c =
       line = c.await_answer.new.source.line.items;
       unheard = pending c.await_answer.new.source;
       answered =
-          answered_from (asked_in c.in-Ok.asking)
-          (asked_by c.args.options.now (name_for c.args.options.now c.args.drawn.now)) c.in-Ok.ensures
+          answered_from (plan_in c.in-Ok.asking)
+          (plan_by c.args.options.now (name_for c.args.options.now c.args.drawn.now)) c.in-Ok.ensures
           (pending c.new-source.result) c.new-source.ensures.nothing (g.R.Read.remaining c.args.input.now)
           (g.W.Write.contents c.args.output.now) end c.await_answer.new.source.line.items
           c.in-Ok-await_answer.ensures.ok;

@@ -7,7 +7,8 @@ pub loop-byte-preserved : goal.loop-byte-preserved
 loop-byte-preserved c =
     let byte = get_or c.args.bytes.now c.loop-byte.byte-index 0 in
     let first : c.push.new.self.items ≡ c.loop-byte.digits.items ++ hex_digit (byte / 16) ∷ [] = search rules in
-    let second : c.push-in-loop-byte.new.self.items ≡ c.push.new.self.items ++ hex_digit (byte % 16) ∷ [] = search rules in
+    let second : c.push-in-loop-byte.new.self.items ≡ c.push.new.self.items ++ hex_digit (byte % 16) ∷ [] =
+    search rules in
     record {
       so_far =
           second ∙ ap (λ (t : List ℕ). t ++ hex_digit (byte % 16) ∷ []) first

@@ -7,7 +7,8 @@ use Rattle.la_call.proofs.reading.call_command.Goals as goal
 
 pub returns-clause-app : goal.returns-clause-app
 returns-clause-app c =
-    let read = c.in_ok-read.ensures.app ∙ ap (λ (a : App). with_rule a (text_option (codes "in"))) c.named.ensures.app in
+    let read =
+    c.in_ok-read.ensures.app ∙ ap (λ (a : App). with_rule a (text_option (codes "in"))) c.named.ensures.app in
     let written = c.in_ok-written.ensures.app ∙ ap (λ (a : App). with_rule a (text_option (codes "out"))) read in
     let timed =
     c.in_ok-timed.ensures.app 0 3600

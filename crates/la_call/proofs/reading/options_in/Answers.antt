@@ -3,7 +3,7 @@ use Rattle.std.specs.Str.Parse.{ParsesUnsigned, ExplainsUnsignedError, HasUnsign
 use Rattle.clap.specs.Words.{first_of, found_of, rows_of}
 use Rattle.la_cli.proofs.lemmas.GivenNumbers.{some_number, taken_is_given}
 use Rattle.la_call.specs.Options.{SaysRequest}
-use Rattle.la_call.specs.Words.{is_name}
+use Rattle.la_call.specs.Words.{is_request_name}
 use Rattle.la_call.proofs.OptionLines.{named_well}
 use Rattle.la_call.proofs.reading.options_in.Goals as goal
 
@@ -31,7 +31,7 @@ invariant_of-result c =
     record {
       some = times.1;
       named =
-          named_well string_bytes is_name c.in_ok-name.name (first_of (codes "name") (rows_of found))
+          named_well string_bytes is_request_name c.in_ok-name.name (first_of (codes "name") (rows_of found))
           c.in_ok-name.ensures (sym c.is_well_named.ensures ∙ c.if-not-is_well_named.false);
       asks = says.1;
     }
