@@ -2,5 +2,6 @@
 //! proved from the contracts of what it calls.
 #![tactic(auto)]
 
+pub mod calls;
 pub mod servers;
 pub mod streams;

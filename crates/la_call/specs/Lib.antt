@@ -1,0 +1,7 @@
+pub mod Words
+pub mod Faults
+pub mod Calls
+pub mod Asking
+pub mod Names
+pub mod Ends
+pub mod Options
