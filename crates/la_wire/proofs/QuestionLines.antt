@@ -26,14 +26,15 @@ use Rattle.la_wire.specs.Questions.{without_at}
 use Rattle.la_wire.specs.Questions.{awaited_by, from_last, awaits, awaited_in}
 use Rattle.la_wire.proofs.FirstWords.{first_part, said_of, form_said, said_by_words}
 
+no_form : (b : Bool) (o : Option Form) → o ≡ None → cond b None o ≡ None
+no_form true o none = refl
+no_form false o none = none
+
 -- no form begins with `status`
 no_status : (more : List (List ℕ)) → said_of (status_word ∷ more) ≡ None
 no_status more =
-    ap (λ o. said_ok (script_call (event_in (status_word ∷ more) o))) (either (has_gap (status_word ∷ more)))
-  where
-    either : (b : Bool) → cond b None None ≡ None
-    either true = refl
-    either false = refl
+    ap (λ o. said_ok (script_call (event_in (status_word ∷ more) o)))
+    (no_form (has_gap (status_word ∷ more)) None refl)
 
 -- a word at the place of a keyword
 is_word : (k : Keyword) (w : List ℕ) (b : Bool) → (bytes_eq w (spelling k) && b) ≡ true → w ≡ spelling k
@@ -174,10 +175,10 @@ ask_waits_not form.Decide line more fit = absurd (false≢true fit)
 -- ## Lines
 
 module _ (line : List ℕ) (c : WireCall) (says : named_call line ≡ Some c) where
-  first : List ℕ
+  abbrev first : List ℕ
   first = front_word line
 
-  more : List (List ℕ)
+  abbrev more : List (List ℕ)
   more = (first_part (λ b. eqb b 32) line).0
 
   words : words_of line ≡ first ∷ more
