@@ -81,8 +81,8 @@ told_on : (turns : List Turn) (t : Turn) → turns_told turns ++ t.told ≡ turn
 told_on turns t =
     sym (flat_map-append (λ (t : Turn). t.told) turns (t ∷ []) ∙ ap (λ x. turns_told turns ++ x) (append-nil t.told))
 
-lines_on : (turns : List Turn) (t : Turn) → turn_lines turns ++ t.line ∷ [] ≡ turn_lines (turns ++ t ∷ [])
-lines_on turns t = sym (map-append (λ (t : Turn). t.line) turns (t ∷ []))
+lines_on : (turns : List Turn) (t : Turn) → turn_lines turns ++ t.heard.line ∷ [] ≡ turn_lines (turns ++ t ∷ [])
+lines_on turns t = sym (map-append (λ (t : Turn). t.heard.line) turns (t ∷ []))
 
 none_read : (left : Option (List ℕ)) → Consumes left (prepend_known [] left) []
 none_read None = tt
@@ -217,12 +217,12 @@ module _ {D R W E : Type 0} (f : Facts D R W E) (first : Point D E) where
           (turns_snoc first.objects so.between (1 + length so.done) so.group p.state t so.are_group
           (subst (λ k. IsTurn first.objects p.state k t) here (subst (λ os. IsTurn os p.state number t) objects is)))
 
-      read_on : (t : Turn) → IsOneLine t.line → Consumes p.ahead q.ahead (t.line ++ 10 ∷ [])
+      read_on : (t : Turn) → IsOneLine t.heard.line → Consumes p.ahead q.ahead (t.heard.line ++ 10 ∷ [])
           → ReadSo first.ahead q.ahead (turn_lines (so.done ++ (so.group ++ t ∷ [])))
       read_on t one read =
           subst (λ ts. ReadSo first.ahead q.ahead (turn_lines ts)) (sym (grown t))
           (subst (ReadSo first.ahead q.ahead) (lines_on (so.done ++ so.group) t)
-          (reads_line first.ahead p.ahead q.ahead (turn_lines (so.done ++ so.group)) t.line so.read one read))
+          (reads_line first.ahead p.ahead q.ahead (turn_lines (so.done ++ so.group)) t.heard.line so.read one read))
 
       tells_more : (t : Turn) → TellsAll f.heard f.refuses p.errors q.errors t.told
           → TellsAll f.heard f.refuses first.errors q.errors (turns_told (so.done ++ (so.group ++ t ∷ [])))

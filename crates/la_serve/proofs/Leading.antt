@@ -6,7 +6,6 @@ use Rattle.la_journal.specs.Machine.{steps, steps_from}
 use Rattle.la_journal.specs.Staging.{kept_unless}
 use Rattle.la_wire.specs.Calls.{WireCall}
 use Rattle.la_wire.specs.CallLines.{named_call}
-use Rattle.la_wire.specs.Requests.{called_in}
 use Rattle.la_node.specs.Steps.{Given}
 use Rattle.la_durable.specs.Nodes.{acts, acts_by, step, leaves_be}
 use Rattle.la_durable.specs.Still.{still_call}
@@ -29,14 +28,14 @@ Goes n t = IsStill n t ⊎ IsStep n t
 
 module _ (n : ServerState) (t : Turn) where
   -- a call is taken; where it leaves the node as it was its line is not kept
-  taken_goes : (call : WireCall) → is_line (called_in t.line) ≡ true → named_call (called_in t.line) ≡ Some call
+  taken_goes : (call : WireCall) → is_line t.heard.call ≡ true → named_call t.heard.call ≡ Some call
       → (given : Given) → acts n.kept call ≡ Some (given, t.after.kept) → (b : Bool)
-      → leaves_be n.kept t.after.kept call given ≡ b → t.kept ≡ kept_unless b (called_in t.line) → Goes n t
+      → leaves_be n.kept t.after.kept call given ≡ b → t.kept ≡ kept_unless b t.heard.call → Goes n t
   taken_goes call stands says given acted true be journal =
       inl (journal, still_call n.kept t.after.kept call given acted be)
   taken_goes call stands says given acted false be journal =
       inr (
-        record { line = called_in t.line; says = stands },
+        record { line = t.heard.call; says = stands },
         journal,
         ap (λ o. option_map (λ (made : Given × ReplicaState). made.1) (acts_by n.kept o)) says
             ∙ ap (option_map (λ (made : Given × ReplicaState). made.1)) acted,

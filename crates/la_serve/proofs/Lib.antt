@@ -6,6 +6,8 @@ pub mod ObjectTexts
 pub mod Acting
 pub mod Turns
 pub mod Taking
+pub mod Fits
+pub mod Counting
 pub mod Saying
 pub mod Reading
 pub mod Behind

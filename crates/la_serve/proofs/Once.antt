@@ -1,6 +1,6 @@
 -- Submissions under numbers count once.
 use Rattle.std.proofs.Common.{◌≡◌, ◌⊎◌, inl, inr, ℕ, zero, suc, ◌+◌, ◌==◌, Bool, true, false, not, List, []}
-use Rattle.std.proofs.Common.{◌∷◌, ◌++◌, length, get_or, slice_get, codes, Option, Some, None, refl, sym, ap, subst}
+use Rattle.std.proofs.Common.{◌∷◌, ◌++◌, length, leb, get_or, slice_get, codes, Option, Some, None, refl, sym, ap, subst}
 use Rattle.std.proofs.Common.{◌∙◌, append_assoc, append-nil, add-one, arith}
 use Rattle.std.specs.Fmt.{decimal}
 use Rattle.std.proofs.lemmas.Bool.{eqb-true, false≢true}
@@ -8,7 +8,10 @@ use Rattle.std.proofs.lemmas.List.{append_cancel_left}
 use Rattle.std.proofs.lemmas.Option.{none-some}
 use Rattle.la_set.specs.ObjectOps.{ObjectOp}
 use Rattle.la_set.specs.Histories.{object_op_number}
+use Rattle.la_set.specs.declared.tags.TheConstants.{MAX_TAGS}
 use Rattle.la_set.specs.declared.update.Op.{Op}
+use Rattle.la_set.specs.declared.update.Op.TheVariants as op
+use Rattle.la_object.specs.Shelves.{kind_at}
 use Rattle.la_object.specs.declared.kind.Kind.{Kind}
 use Rattle.la_proposer.specs.ProposerState.{op_on}
 use Rattle.la_node.specs.Calls.{Submitted}
@@ -16,21 +19,28 @@ use Rattle.la_node.specs.Steps.{node_step}
 use Rattle.la_node.proofs.lemmas.Stepping.{some_of}
 use Rattle.la_replica.specs.ReplicaState.{ReplicaState}
 use Rattle.la_io.specs.Limits.{is_too_long}
-use Rattle.la_wire.specs.declared.error.LineFault.TheVariants.{TooLong}
 use Rattle.la_wire.specs.Calls.{WireCall, Submit, Decide, Ask, Tick, Receive, Known}
-use Rattle.la_wire.specs.CallLines.{named_call}
+use Rattle.la_wire.specs.CallLines.{named_call, call_line_text}
+use Rattle.la_wire.specs.declared.questions.Question.{Question}
+use Rattle.la_wire.specs.declared.questions.Take.{Take}
 use Rattle.la_wire.specs.Notes.{submitted_note, refused_note}
-use Rattle.la_wire.specs.Requests.{NumberedLine, numbered_in, unnamed_in, unnumbered, called_in, name_in, asked_number}
-use Rattle.la_wire.specs.Requests.{IsSubmission}
+use Rattle.la_wire.specs.Requests.{NumberedLine, numbered_in, unnumbered, IsSubmission}
+use Rattle.la_wire.specs.Questions.{question_in, take_in}
+use Rattle.la_serve.specs.declared.said.Said.{Said}
+use Rattle.la_serve.specs.declared.said.Said.TheVariants as said
+use Rattle.la_serve.specs.declared.said.Why.{Why}
+use Rattle.la_serve.specs.Heard.{Heard, bare, heard_name, heard_call}
 use Rattle.la_serve.specs.Numbered.{submissions_by, submission_under, is_next_number}
 use Rattle.la_serve.specs.Once.{MayGoOn, AddsUnder, AsksUnder, NumbersCountOnce}
 use Rattle.la_serve.specs.Serving.{AreTurns}
-use Rattle.la_serve.specs.Turns.{ServerState, Turn, OneOf, own_of, only_writes, faulty, is_note, IsCallTaken}
-use Rattle.la_serve.specs.Turns.{IsNumberedAs, IsSubmissionTurn, IsStarved, HasFault, SaysCall, IsCallTurn}
+use Rattle.la_serve.specs.Said.{why_word, unfit, asks_of, IsSaidUnder, IsSaidUnlessFit}
+use Rattle.la_serve.specs.Takes.{taken_tags}
+use Rattle.la_serve.specs.Turns.{ServerState, Turn, OneOf, own_of, only_says, is_note, IsCallTaken, IsSaidTurn}
+use Rattle.la_serve.specs.Turns.{HasFault, SaysCall, IsCallTurn, IsQuestionTurn, IsTakeTurn, IsRequestTurn}
 use Rattle.la_serve.specs.Turns.{IsShortTurn, IsTurn}
 use Rattle.la_serve.proofs.Processes.{call_of_line, where_some}
 use Rattle.la_serve.proofs.Submissions.{ProposersGoOn, GoesOnWith, step_goes}
-use Rattle.la_serve.proofs.TurnKinds.{what}
+use Rattle.la_serve.proofs.TurnKinds.{IsHeardSo, one_of, what}
 
 -- ## What stands under a number
 
@@ -100,22 +110,32 @@ StandsOrAdds number d before after =
 abbrev Comes : ServerState → (number : ℕ) → Turn → Type 0
 Comes n number t =
     ((t.after.kept ≡ n.kept) × IsUnanswered n t)
-    ⊎ ((d : ObjectOp) × AsksUnder n.kept.own t.line number d × StandsOrAdds number d n.kept t.after.kept)
+    ⊎ ((d : ObjectOp) × AsksUnder n.kept.own t.heard number d × StandsOrAdds number d n.kept t.after.kept)
 
-abbrev SaySubmissions : Type 0
-SaySubmissions =
-    (line : List ℕ) (n : NumberedLine) (c : WireCall) → numbered_in line ≡ Some n → named_call n.plain ≡ Some c
-    → IsSubmission c
+-- what is called for under a number is a submission, and so is what is written of one
+pub record SaySubmissions : Type 0 where
+  pub numbered : (line : List ℕ) (n : NumberedLine) (c : WireCall) → numbered_in line ≡ Some n →
+      named_call n.plain ≡ Some c → IsSubmission c
+  pub written : (replica object : ℕ) (does : Op) (c : WireCall) →
+      named_call (call_line_text (Submit replica object does)) ≡ Some c → IsSubmission c
 
-asks_submission : SaySubmissions → (line : List ℕ) (number : ℕ) (c : WireCall) → asked_number line ≡ Some number
-    → named_call (called_in line) ≡ Some c → IsSubmission c
-asks_submission say line number c asks says =
-    let s = some_of (λ (n : NumberedLine). n.number) (numbered_in (unnamed_in line)) number asks in
-    say (unnamed_in line) s.0 c s.1
-    (sym (ap (λ (o : Option NumberedLine). named_call (unnumbered (unnamed_in line) o)) s.1) ∙ says)
+numbered_submission : SaySubmissions → (line : List ℕ) (number : ℕ) (c : WireCall)
+    → (heard_call line).number ≡ Some number → named_call (heard_call line).call ≡ Some c → IsSubmission c
+numbered_submission say line number c asks says =
+    let s = some_of (λ (n : NumberedLine). n.number) (numbered_in (bare line)) number asks in
+    say.numbered (bare line) s.0 c s.1
+    (sym (ap (λ (o : Option NumberedLine). named_call (unnumbered (bare line) o)) s.1) ∙ says)
+
+asks_submission : SaySubmissions → (h : Heard) → IsHeardSo h → (number : ℕ) (c : WireCall) → h.number ≡ Some number
+    → named_call h.call ≡ Some c → IsSubmission c
+asks_submission say h (inl is) number c asks says =
+    numbered_submission say h.line number c (sym (ap (λ (x : Heard). x.number) is) ∙ asks)
+    (sym (ap (λ (x : Heard). named_call x.call) is) ∙ says)
+asks_submission say h (inr (take, tags, is)) number c asks says =
+    say.written take.replica take.object (op.Remove tags) c (sym (ap (λ (x : Heard). named_call x.call) is) ∙ says)
 
 module _ (laws : ProposersGoOn) (say : SaySubmissions) (objects : List (ℕ × Kind)) (n : ServerState) (k number : ℕ)
-    (t : Turn) (may : MayGoOn n.kept) (asks : asked_number t.line ≡ Some number) where
+    (t : Turn) (may : MayGoOn n.kept) (asks : t.heard.number ≡ Some number) where
   silent : (u : Turn) → t ≡ u → u.after.kept ≡ n.kept → u.text ≡ [] → Comes n number t
   silent u is same none =
       inl (ap (λ (x : Turn). x.after.kept) is ∙ same, inl (ap (λ (x : Turn). x.text) is ∙ none))
@@ -125,49 +145,57 @@ module _ (laws : ProposersGoOn) (say : SaySubmissions) (objects : List (ℕ × K
   refused u j why name is same text =
       inl (ap (λ (x : Turn). x.after.kept) is ∙ same, inr (j, why, name, ap (λ (x : Turn). x.text) is ∙ text))
 
-  module _ (replica object : ℕ) (op : Op) (own : (replica == n.kept.own) ≡ true)
-      (says : named_call (called_in t.line) ≡ Some (Submit replica object op)) where
-    abbrev d : ObjectOp
-    d = op_on object op
+  -- a line that says no number
+  unnumbered_line : (h : Heard) → t.heard ≡ h → h.number ≡ None → Comes n number t
+  unnumbered_line h is none =
+      absurd (none-some number (sym none ∙ sym (ap (λ (x : Heard). x.number) is) ∙ asks))
 
-    asks_this : AsksUnder n.kept.own t.line number d
+  module _ (replica object : ℕ) (does : Op) (own : (replica == n.kept.own) ≡ true)
+      (says : named_call t.heard.call ≡ Some (Submit replica object does)) where
+    abbrev d : ObjectOp
+    d = op_on object does
+
+    asks_this : AsksUnder n.kept.own t.heard number d
     asks_this = record {
       numbered = asks;
-      says = says ∙ ap (λ r. Some (Submit r object op)) (eqb-true replica n.kept.own own);
+      says = says ∙ ap (λ r. Some (Submit r object does)) (eqb-true replica n.kept.own own);
     }
 
-    taken : is_next_number n.kept number ≡ true → IsCallTaken n (Submit replica object op) t → Comes n number t
+    taken : is_next_number n.kept number ≡ true → IsCallTaken n (Submit replica object does) t → Comes n number t
     taken next is =
-        let call = call_of_line n.kept (Submit replica object op) (is.given, t.after.kept) is.acted in
+        let call = call_of_line n.kept (Submit replica object does) (is.given, t.after.kept) is.acted in
         let this : Submitted d ≡ call.0 =
         (where_some (replica == n.kept.own) (Submitted d) call.0 call.1).1 in
         let goes = step_goes laws n.kept may (Submitted d) (is.given, t.after.kept)
         (subst (λ a. node_step n.kept a ≡ Some (is.given, t.after.kept)) (sym this) call.2) in
         inr (d, asks_this, inr (eqb-true number (length (submissions_by n.kept) + 1) next, goes.adds))
 
-    by_found : (o : Option ObjectOp) → submission_under n.kept number ≡ o → IsNumberedAs n k number d o t
-        → Comes n number t
-    by_found None found is = refused _ k (codes "Gap") (name_in t.line) is refl refl
-    by_found (Some e) found (inl (same, inl again)) =
-        inr (d, asks_this, inl (ap (λ (x : Turn). x.after.kept) again, found ∙ ap Some same))
-    by_found (Some e) found (inl (same, inr hungry)) = refused _ k (codes "Memory") (name_in t.line) hungry refl refl
-    by_found (Some e) found (inr (other, stale)) = refused _ k (codes "Stale") (name_in t.line) stale refl refl
+    refused_so : (w : Why) → t ≡ only_says n k t.heard (said.Refused w) → Comes n number t
+    refused_so w is = refused _ k (why_word w) t.heard.name is refl refl
 
-    by_number : IsSubmissionTurn n k (Some number) d (Submit replica object op) t → Comes n number t
-    by_number is = elim (one_is (is_next_number n.kept number) is) [
-      | inl (next, inl kept) ↦ taken next kept
-      | inl (next, inr refusal) ↦ refused _ k _ (name_in t.line) refusal.turn refl refl
-      | inr (other, found) ↦ by_found (submission_under n.kept number) refl found
-    ]
+    by_under : (o : Option Said) → IsSaidUnder n.kept t.heard.name d (Some number) o
+        → IsSaidTurn n k (Submit replica object does) o t → Comes n number t
+    by_under None next (inl kept) = taken next kept
+    by_under None next (inr refusal) = refused _ k _ t.heard.name refusal.turn refl refl
+    by_under (Some (said.Lines text)) (other, same, is) turn =
+        inr (d, asks_this, inl (ap (λ (x : Turn). x.after.kept) turn, same))
+    by_under (Some (said.Refused w)) is turn = refused_so w turn
 
-  by_call : (c : WireCall) → IsSubmission c → named_call (called_in t.line) ≡ Some c → IsCallTurn objects n k c t
+    by_fit : (u : Option Why) (o : Option Said) → IsSaidUnlessFit u n.kept t.heard d o
+        → IsSaidTurn n k (Submit replica object does) o t → Comes n number t
+    by_fit (Some w) o is turn =
+        refused_so w (subst (λ (x : Option Said). IsSaidTurn n k (Submit replica object does) x t) is turn)
+    by_fit None o is turn =
+        by_under o (subst (λ x. IsSaidUnder n.kept t.heard.name d x o) asks is) turn
+
+  by_call : (c : WireCall) → IsSubmission c → named_call t.heard.call ≡ Some c → IsCallTurn objects n k c t
       → Comes n number t
-  by_call (Submit replica object op) is says turn =
+  by_call (Submit replica object does) is says turn =
       elim (one_is (not (replica == n.kept.own)) turn) [
         | inl (away, passed) ↦ silent _ passed refl refl
-        | inr (own, here) ↦
-            by_number replica object op (same_own (replica == n.kept.own) own) says
-            (subst (λ o. IsSubmissionTurn n k o (op_on object op) (Submit replica object op) t) asks here)
+        | inr (own, (o, said, here)) ↦
+            by_fit replica object does (same_own (replica == n.kept.own) own) says
+            (unfit (kind_at objects object) does) o said here
       ]
   by_call (Decide replica commit value) is says turn = absurd is
   by_call (Ask replica object query) is says turn = absurd is
@@ -175,41 +203,56 @@ module _ (laws : ProposersGoOn) (say : SaySubmissions) (objects : List (ℕ × K
   by_call (Receive m) is says turn = absurd is
   by_call (Known s) is says turn = absurd is
 
+  by_heard : IsHeardSo t.heard → (SaysCall objects n k t ⊎ HasFault n k t) → Comes n number t
+  by_heard so (inl s) = by_call s.call (asks_submission say t.heard so number s.call asks s.says) s.says s.turn
+  by_heard so (inr has) = silent _ has.turn refl refl
+
+  by_question : (q : Question) → IsQuestionTurn objects n k q t → Comes n number t
+  by_question q is = elim (one_of (asks_of q == own_of n) is) [
+    | inl said ↦ unnumbered_line (heard_name t.heard.line) (ap (λ (u : Turn). u.heard) said.2) refl
+    | inr passed ↦ unnumbered_line (heard_name t.heard.line) (ap (λ (u : Turn). u.heard) passed) refl
+  ]
+
+  by_take : (take : Take) → IsTakeTurn objects n k take t → Comes n number t
+  by_take take is = elim (one_of (leb (length (taken_tags objects n.kept take)) MAX_TAGS) is) [
+    | inl heard ↦ by_heard (inr (take, taken_tags objects n.kept take, heard.0)) heard.1
+    | inr many ↦ unnumbered_line (heard_name t.heard.line) (ap (λ (u : Turn). u.heard) many) refl
+  ]
+
+  by_request : (q : Option Question) (take : Option Take) → IsRequestTurn objects n k q take t → Comes n number t
+  by_request (Some q) take is = by_question q is
+  by_request None (Some take) is = by_take take is
+  by_request None None is = by_heard (inl is.0) is.1
+
   by_short : IsShortTurn objects n k t → Comes n number t
-  by_short is =
-      elim
-      (one_is {A = t ≡ only_writes n t.line []} {B = SaysCall objects n k t ⊎ (HasFault n k t ⊎ IsStarved n k t)}
-      (is_note t.line) is) [
-        | inl (note, passed) ↦ silent _ passed refl refl
-        | inr (other, inl s) ↦ by_call s.call (asks_submission say t.line number s.call asks s.says) s.says s.turn
-        | inr (other, inr (inl has)) ↦ silent _ has.turn refl refl
-        | inr (other, inr (inr hungry)) ↦ refused _ k (codes "Memory") (name_in t.line) hungry refl refl
-      ]
+  by_short is = elim (one_of (is_note t.heard.line) is) [
+    | inl note ↦ silent _ note refl refl
+    | inr (inl request) ↦ by_request (question_in (bare t.heard.line)) (take_in (bare t.heard.line)) request
+    | inr (inr hungry) ↦ unnumbered_line (heard_name t.heard.line) (ap (λ (u : Turn). u.heard) hungry) refl
+  ]
 
   comes : IsTurn objects n k t → Comes n number t
   unfolding IsTurn
-  comes is =
-      elim
-      (one_is {A = t ≡ faulty n k t.line [] TooLong} {B = IsShortTurn objects n k t} (is_too_long t.line) is) [
-        | inl (long, told) ↦ silent _ told refl refl
-        | inr (short, turn) ↦ by_short turn
-      ]
+  comes is = elim (one_of (is_too_long t.heard.line) is) [
+    | inl long ↦ silent _ long refl refl
+    | inr short ↦ by_short short
+  ]
 
   once : IsTurn objects n k t
       → (t.after.kept ≡ n.kept)
-      ⊎ ((d : ObjectOp) × AsksUnder n.kept.own t.line number d × AddsUnder number d n.kept t.after.kept)
+      ⊎ ((d : ObjectOp) × AsksUnder n.kept.own t.heard number d × AddsUnder number d n.kept t.after.kept)
   once is = elim (comes is) [
     | inl (same, unanswered) ↦ inl same
     | inr (does, this, inl (same, stands)) ↦ inl same
     | inr (does, this, inr adds) ↦ inr (does, this, adds)
   ]
 
-  answered : (more : List ℕ) → IsTurn objects n k t → t.text ≡ submitted_note n.kept.own number (name_in t.line) ++ more
-      → (d : ObjectOp) × AsksUnder n.kept.own t.line number d × (submission_under t.after.kept number ≡ Some d)
+  answered : (more : List ℕ) → IsTurn objects n k t → t.text ≡ submitted_note n.kept.own number t.heard.name ++ more
+      → (d : ObjectOp) × AsksUnder n.kept.own t.heard number d × (submission_under t.after.kept number ≡ Some d)
   answered more is text = elim (comes is) [
-    | inl (same, inl none) ↦ absurd (not_silent n.kept.own number (name_in t.line) more (sym none ∙ text))
+    | inl (same, inl none) ↦ absurd (not_silent n.kept.own number t.heard.name more (sym none ∙ text))
     | inl (same, inr (j, why, name, refusal)) ↦
-        absurd (not_refused n.kept.own number j (name_in t.line) why name more (sym text ∙ refusal))
+        absurd (not_refused n.kept.own number j t.heard.name why name more (sym text ∙ refusal))
     | inr (does, this, inl (same, stands)) ↦ (does, this, ap (λ r. submission_under r number) same ∙ stands)
     | inr (does, this, inr adds) ↦ (does, this, adds_under number does n.kept t.after.kept adds)
   ]

@@ -5,6 +5,8 @@ use Rattle.std.proofs.Common.{option_and_then, ap, subst, ◌∙◌, append-nil,
 use Rattle.std.specs.List.{range_with_len}
 use Rattle.std.proofs.lemmas.Bool.{eqb-true, false≢true}
 use Rattle.std.proofs.lemmas.Option.{none-some, same_Some}
+use Rattle.la_set.specs.declared.update.Op.{Op}
+use Rattle.la_set.specs.declared.update.Op.TheVariants as op
 use Rattle.la_set.specs.ObjectOps.{ObjectOp}
 use Rattle.la_proposer.specs.Majority.{votes_of}
 use Rattle.la_proposer.specs.ProposerState.{op_on}
@@ -31,8 +33,8 @@ use Rattle.la_node.proofs.lemmas.Stepping.{some_of}
 use Rattle.la_wire.specs.Messages.{WireMessage, letter_message, said_content}
 use Rattle.la_wire.specs.MessageLines.{message_text}
 use Rattle.la_wire.specs.Calls.{WireCall, Submit, Decide, Ask, Tick, Receive, Known}
-use Rattle.la_wire.specs.CallLines.{named_call}
-use Rattle.la_wire.specs.Requests.{called_in}
+use Rattle.la_wire.specs.CallLines.{named_call, call_line_text}
+use Rattle.la_wire.specs.Requests.{IsSubmission}
 use Rattle.la_wire.specs.Writable.{IsTypedMessage}
 use Rattle.la_durable.specs.CallLines.{CallLine}
 use Rattle.la_durable.specs.Nodes.{acts, node_call, parcel_of, content_of}
@@ -40,11 +42,12 @@ use Rattle.la_durable.specs.Restarts.{LeadBetween, RestartsTakeCalls}
 use Rattle.la_world.specs.LiveGroups.{LearntSet, learnt_set, learnt_by_call}
 use Rattle.la_world.specs.Together.{AreTogether, IsOfLetters, IsBrought, LeadBrought, NewReplicasAreTogether}
 use Rattle.la_world.specs.Together.{CallsKeepTogether, LostCallsKeepTogether, RepeatsKeepTogether}
+use Rattle.la_serve.specs.Heard.{Heard}
 use Rattle.la_serve.specs.Turns.{ServerState, Turn, noted_by}
 use Rattle.la_serve.specs.Starting.{newly_started}
 use Rattle.la_serve.specs.Processes.{kept_of_all, AreProcesses, IsLineOf, IsHandedCall, IsHandedLine}
 use Rattle.la_serve.specs.Processes.{NewProcessesAreTogether, TurnsKeepTogether, RestartsKeepTogether}
-use Rattle.la_serve.proofs.TurnKinds.{IsQuiet, Repeats, Takes, IsWhat, what}
+use Rattle.la_serve.proofs.TurnKinds.{IsQuiet, IsHeardSo, Repeats, Takes, IsWhat, what}
 
 -- ## What a node reads of a letter
 
@@ -247,6 +250,21 @@ moved states states2 letters letters2 learnt learnt2 p q s are =
 
 -- ## They stay together
 
+-- what is written of a submission says no message
+abbrev pub SubmissionsAreReadSo : Type 0
+SubmissionsAreReadSo =
+    (replica object : ℕ) (does : Op) (c : WireCall) → named_call (call_line_text (Submit replica object does)) ≡ Some c
+    → IsSubmission c
+
+handed_so : SubmissionsAreReadSo → (letters : List Letter) (r : ℕ) (h : Heard) → IsHeardSo h
+    → IsHandedLine letters r h.line → IsHandedCall letters r h.call
+handed_so say letters r h (inl is) handed =
+    subst (IsHandedCall letters r) (sym (ap (λ (x : Heard). x.call) is)) handed
+handed_so say letters r h (inr (take, tags, is)) handed =
+    λ m says to.
+    absurd (say take.replica take.object (op.Remove tags) (Receive m)
+    (sym (ap (λ (x : Heard). named_call x.call) is) ∙ says))
+
 module _ (nodes : List ServerState) (letters : List Letter) (learnt : List LearntSet) (r : ℕ) (n : ServerState)
     (are : AreProcesses nodes letters learnt) (at : slice_get nodes r ≡ Some n) where
   at_kept : slice_get (kept_of_all nodes) r ≡ Some n.kept
@@ -290,16 +308,17 @@ module _ (nodes : List ServerState) (letters : List Letter) (learnt : List Learn
         own = owns_on t.after (ap (λ (s : ReplicaState). s.own) kept ∙ own);
       }
 
-  took_on : CallsKeepTogether → LettersAreReadBack → (t : Turn) → Takes n t → IsHandedLine letters r t.line
+  took_on : SubmissionsAreReadSo → CallsKeepTogether → LettersAreReadBack → (t : Turn) → Takes n t
+      → IsHandedLine letters r t.heard.line
       → AreProcesses (slice_set nodes r t.after) (letters ++ t.sent) (learnt ++ t.learnt)
-  took_on calls back t it handed =
+  took_on say calls back t it handed =
       let given = it.taken.given in
       let does = call_of_line n.kept it.call (given, t.after.kept) it.taken.acted in
       let so = brought letters r n.kept own does.0 (accepted n.kept does.0 (given, t.after.kept) does.2).0 it.call
       does.1
       (λ m same to.
-      let says : named_call (called_in t.line) ≡ Some (Receive m) = it.says ∙ ap Some same in
-      of_letters back letters (called_in t.line) m says (handed m says to)) in
+      let says : named_call t.heard.call ≡ Some (Receive m) = it.says ∙ ap Some same in
+      of_letters back letters t.heard.call m says (handed_so say letters r t.heard it.heard handed m says to)) in
       record {
         together =
             moved (slice_set (kept_of_all nodes) r t.after.kept) (kept_of_all (slice_set nodes r t.after)) _
@@ -311,16 +330,16 @@ module _ (nodes : List ServerState) (letters : List Letter) (learnt : List Learn
         own = owns_on t.after (own_step n.kept does.0 (given, t.after.kept) does.2 ∙ own);
       }
 
-  turn_on : CallsKeepTogether → RepeatsKeepTogether → LettersAreReadBack → (t : Turn) → IsWhat n t
-      → IsHandedLine letters r t.line
+  turn_on : SubmissionsAreReadSo → CallsKeepTogether → RepeatsKeepTogether → LettersAreReadBack → (t : Turn) → IsWhat n t
+      → IsHandedLine letters r t.heard.line
       → AreProcesses (slice_set nodes r t.after) (letters ++ t.sent) (learnt ++ t.learnt)
-  turn_on calls again back t (inl quiet) handed = quiet_on t quiet
-  turn_on calls again back t (inr (inl repeats)) handed = again_on again t repeats
-  turn_on calls again back t (inr (inr takes)) handed = took_on calls back t takes handed
+  turn_on say calls again back t (inl quiet) handed = quiet_on t quiet
+  turn_on say calls again back t (inr (inl repeats)) handed = again_on again t repeats
+  turn_on say calls again back t (inr (inr takes)) handed = took_on say calls back t takes handed
 
-pub turns : CallsKeepTogether → RepeatsKeepTogether → LettersAreReadBack → TurnsKeepTogether
-turns calls again back nodes letters learnt objects r k n t are at is handed =
-    turn_on nodes letters learnt r n are at calls again back t (what objects n k t is) handed
+pub turns : SubmissionsAreReadSo → CallsKeepTogether → RepeatsKeepTogether → LettersAreReadBack → TurnsKeepTogether
+turns say calls again back nodes letters learnt objects r k n t are at is handed =
+    turn_on nodes letters learnt r n are at say calls again back t (what objects n k t is) handed
 
 -- ## Restarts
 

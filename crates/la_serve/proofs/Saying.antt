@@ -1,7 +1,7 @@
--- A turn by what is written of its line, where the journal does not gain it.
-use Rattle.std.proofs.Common.{◌≡◌, ◌↔◌, IsTrue, ℕ, Bool, true, false, ◌&&◌, [], List, append-nil, filter, take}
-use Rattle.std.proofs.Common.{get_or, ◌+◌, slice_get}
-use Rattle.std.proofs.Common.{Some, Option, refl, sym, ap, subst, ◌∙◌, inl, inr}
+-- A turn by what is said of its line.
+use Rattle.std.proofs.Common.{◌≡◌, ◌↔◌, ⊥, IsTrue, ℕ, Bool, true, false, ◌&&◌, [], List, append-nil, filter, take}
+use Rattle.std.proofs.Common.{get_or, ◌+◌, slice_get, Some, None, Option, refl, sym, ap, subst, ◌∙◌, inl, inr, length, leb}
+use Rattle.std.proofs.Common.{false≢true}
 use Rattle.std.specs.List.{list_all}
 use Rattle.std.specs.Io.KnownBytes.{Appends}
 use Rattle.std.proofs.KnownBytes.{Appends-nil}
@@ -9,9 +9,9 @@ use Rattle.std.specs.Cmp.{both_ways}
 use Rattle.std.proofs.lemmas.List.Folds.{list_all_more}
 use Rattle.std.proofs.lemmas.Option.{slice_get_within, get_or_from_slice_get}
 use Rattle.la_set.specs.declared.counts.Counts.{Counts}
-use Rattle.la_set.specs.declared.update.Op.{Op}
+use Rattle.la_set.specs.declared.tags.TheConstants.{MAX_TAGS}
 use Rattle.la_set.specs.declared.update.Update.{Update}
-use Rattle.la_proposer.specs.ProposerState.{op_on}
+use Rattle.la_set.specs.declared.update.UpdateId.{UpdateId}
 use Rattle.la_set.specs.Histories.{Histories}
 use Rattle.la_set.specs.Counts.{counts_of, HasCounts}
 use Rattle.la_node.specs.declared.link.Standing.{Standing}
@@ -22,108 +22,102 @@ use Rattle.la_replica.specs.declared.message.Message as code
 use Rattle.la_replica.specs.Again.{again}
 use Rattle.la_replica.specs.Bases.{AreToldIn}
 use Rattle.la_replica.specs.Whole.{whole_mail}
-use Rattle.la_wire.specs.Notes.{letters_text}
-use Rattle.la_wire.specs.Requests.{name_in, asked_number}
 use Rattle.la_object.specs.declared.kind.Kind.{Kind}
 use Rattle.la_object.specs.declared.query.Query.{Query}
-use Rattle.la_wire.specs.Calls.{WireCall, Submit, Ask, Tick, Receive, Known, called}
-use Rattle.la_wire.specs.Messages.{WireMessage, Tell}
+use Rattle.la_object.specs.Shelves.{answer_at}
+use Rattle.la_wire.specs.declared.questions.Question.{Question}
+use Rattle.la_wire.specs.declared.questions.Take.{Take}
+use Rattle.la_wire.specs.Notes.{letters_text}
+use Rattle.la_wire.specs.Questions.{question_in, take_in}
+use Rattle.la_wire.specs.Calls.{WireCall, Submit, Decide, Ask, Tick, Receive, Known, called}
+use Rattle.la_wire.specs.Messages.{Tell}
 use Rattle.la_durable.specs.Inputs.{InputState}
+use Rattle.la_serve.specs.declared.asking.Asking.{Asking}
 use Rattle.la_serve.specs.declared.said.Said.{Said}
 use Rattle.la_serve.specs.declared.said.Said.TheVariants as said
+use Rattle.la_serve.specs.declared.said.Why.{Why}
+use Rattle.la_serve.specs.declared.said.Why.TheVariants as why
+use Rattle.la_serve.specs.Asking.{IsAsking, heard_as}
+use Rattle.la_serve.specs.Heard.{Heard, bare, heard_name, heard_call, heard_take}
 use Rattle.la_serve.specs.Io.{Io}
-use Rattle.la_serve.specs.Turns.{Turn, ServerState, OneOf, IsKeptTurn, IsToldBack, is_stale, is_reached, is_told_known}
-use Rattle.la_serve.specs.Turns.{only_writes, only_sends, own_of, question_answered, IsAnsweredTurn, IsTurnHere}
-use Rattle.la_serve.specs.Said.{said_text, IsSaidAnswer, answer_by, IsSaidAgain, IsSaidBack, IsSaidInstead}
-use Rattle.la_serve.specs.Serving.{OfCall, TakesBy, TakesLine, TellsNoLine}
-use Rattle.la_serve.proofs.Numbering.{said_here}
+use Rattle.la_serve.specs.Turns.{Turn, ServerState, OneOf, IsKeptTurn, IsSaidTurn, IsAnsweredTurn, IsTurnHere, own_of}
+use Rattle.la_serve.specs.Turns.{only_writes, only_sends, only_says, IsQuestionTurn, IsTakeTurn, IsRequestTurn, IsHeardTurn}
+use Rattle.la_serve.specs.Said.{said_text, shelf_by, is_reached, is_told_known, asks_of, may_be_taken}
+use Rattle.la_serve.specs.Said.{IsSaidAnswer, IsSaidAfter, IsSaidAgain, IsSaidHere, IsSaidToQuestion}
+use Rattle.la_serve.specs.Serving.{OfCall, OfHeard, OfQuestion, OfRequest, OfTake, IsStarvedLine}
+use Rattle.la_serve.specs.Serving.{TakesBy, TakesLine, TellsNoLine}
+use Rattle.la_serve.specs.Takes.{taken_tags, IsTakeRefusal}
 use Rattle.la_serve.proofs.Taking.{takes_only}
+use Rattle.la_serve.proofs.Turns.{OfKept}
 
-pub is_answered : (objects : List (ℕ × Kind)) (n : ServerState) (k object : ℕ) (query : Query) (line : List ℕ)
-    (s : Said)
-    → IsSaidAnswer (own_of n) object (name_in line) (answer_by objects n.kept object query) s
-    → IsAnsweredTurn objects n k object query (only_writes n line (said_text (own_of n) k (name_in line) s))
-is_answered objects n k object query line (said.Lines text) is =
-    inl (ap (only_writes n line) is.2 ∙ ap (question_answered n k object line) (sym is.1))
-is_answered objects n k object query line said.NoSuchObject is = inl (ap (question_answered n k object line) (sym is))
-is_answered objects n k object query line said.Stale is = absurd is
-is_answered objects n k object query line said.Gap is = absurd is
-is_answered objects n k object query line said.Memory is = inr refl
+-- ## Calls
 
-pub is_told_back : (n : ServerState) (k from : ℕ) (line : List ℕ) (s : Said) → IsSaidBack n.kept from s
-    → IsToldBack n k from (only_writes n line (said_text (own_of n) k (name_in line) s))
-is_told_back n k from line (said.Lines text) is = inl (ap (only_writes n line) is)
-is_told_back n k from line said.NoSuchObject is = absurd is
-is_told_back n k from line said.Stale is = absurd is
-is_told_back n k from line said.Gap is = absurd is
-is_told_back n k from line said.Memory is = inr refl
+-- something is said of a call, or it is taken
+pub answered_here : (objects : List (ℕ × Kind)) (n : ServerState) (k : ℕ) (call : WireCall) (t : Turn)
+    → may_be_taken call ≡ true → IsAnsweredTurn objects n k call t → IsTurnHere objects n k call t
+answered_here objects n k (Submit replica object op) t may is = is
+answered_here objects n k (Decide replica commit value) t may is = is
+answered_here objects n k (Ask replica object query) t may is = absurd (false≢true may)
+answered_here objects n k Tick t may is = absurd (false≢true may)
+answered_here objects n k (Receive m) t may is = is
+answered_here objects n k (Known standing) t may is = absurd (false≢true may)
 
--- of a letter that brings no news
-is_received : (n : ServerState) (k : ℕ) (m : WireMessage) (t : Turn) (b : Bool) → is_stale n.kept m ≡ b → b ≡ true
-    → IsToldBack n k m.from t → OneOf (is_stale n.kept m) (IsToldBack n k m.from t) (IsKeptTurn n k (Receive m) t)
-is_received n k m t b is stale back =
-    subst (λ z. OneOf z (IsToldBack n k m.from t) (IsKeptTurn n k (Receive m) t)) (sym (is ∙ stale)) back
+module _ (k : ℕ) (heard : Heard) (input : InputState) (before after : Io)
+    (may : may_be_taken (called input.call) ≡ true)
+    (none : IsSaidHere before.objects before.state.kept heard (called input.call) None) where
+  -- it is taken, since nothing is said of it
+  pub kept_here : (t : Turn) → OfKept heard input k before after t → OfCall heard input IsTurnHere k before after t
+  kept_here t (same, kept) = (
+    same,
+    answered_here before.objects before.state k (called input.call) t may (
+      None,
+      subst (λ h. IsSaidHere before.objects before.state.kept h (called input.call) None) (sym same) none,
+      kept,
+    ),
+  )
 
--- it was written
-module _ (Wrote : (before after : Option (List ℕ)) → List ℕ → Type 0) (k : ℕ) (line : List ℕ) (input : InputState)
+-- what is said was written
+module _ (Wrote : (before after : Option (List ℕ)) → List ℕ → Type 0) (k : ℕ) (heard : Heard) (input : InputState)
     (before after : Io) (s : Said) (same : after.state ≡ before.state) (still : after.journal ≡ before.journal)
-    (own : ℕ) (is_own : own ≡ own_of before.state) (name : List ℕ) (is_name : name ≡ name_in line)
-    (w : Wrote before.out after.out (said_text own k name s)) where
-  said_taken : (call : WireCall) → called input.call ≡ call
-      → IsTurnHere before.objects before.state k call
-      (only_writes before.state line (said_text (own_of before.state) k (name_in line) s))
-      → TakesBy Wrote (OfCall line input IsTurnHere k) TellsNoLine before after
-  said_taken call e is =
-      let text = said_text (own_of before.state) k (name_in line) s in
-      takes_only Wrote (OfCall line input IsTurnHere k) before after line text (
-        refl,
-        subst (λ (x : WireCall). IsTurnHere before.objects before.state k x (only_writes before.state line text))
-            (sym e) is,
-      )
-      same still
-      (subst (λ (o : ℕ). Wrote before.out after.out (said_text o k (name_in line) s)) is_own
-      (subst (λ m. Wrote before.out after.out (said_text own k m s)) is_name w))
+    (own : ℕ) (is_own : own ≡ own_of before.state) (w : Wrote before.out after.out (said_text own k heard.name s)) where
+  said_taken : IsTurnHere before.objects before.state k (called input.call) (only_says before.state k heard s)
+      → TakesBy Wrote (OfCall heard input IsTurnHere k) TellsNoLine before after
+  said_taken is =
+      takes_only Wrote (OfCall heard input IsTurnHere k) before after heard
+      (said_text (own_of before.state) k heard.name s) (refl, is) same still
+      (subst (λ (o : ℕ). Wrote before.out after.out (said_text o k heard.name s)) is_own w)
+
+  pub instead_taken : may_be_taken (called input.call) ≡ true
+      → IsSaidHere before.objects before.state.kept heard (called input.call) (Some s)
+      → TakesBy Wrote (OfCall heard input IsTurnHere k) TellsNoLine before after
+  instead_taken may is =
+      said_taken
+      (answered_here before.objects before.state k (called input.call) (only_says before.state k heard s) may
+      (Some s, is, refl))
 
   pub ask_taken : (replica object : ℕ) (query : Query) → called input.call ≡ Ask replica object query
-      → IsSaidAnswer (own_of before.state) object name (answer_by before.objects before.state.kept object query) s
-      → TakesBy Wrote (OfCall line input IsTurnHere k) TellsNoLine before after
+      → IsSaidAfter before.state.kept heard.name heard.after
+      (IsSaidAnswer (own_of before.state) object heard.name
+      (answer_at (shelf_by before.objects before.state.kept) object query)) s
+      → TakesBy Wrote (OfCall heard input IsTurnHere k) TellsNoLine before after
   ask_taken replica object query e is =
-      said_taken (Ask replica object query) e
-      (is_answered before.objects before.state k object query line s
-      (subst (λ m. IsSaidAnswer (own_of before.state) object m
-      (answer_by before.objects before.state.kept object query) s) is_name is))
-
-  pub back_taken : (m : WireMessage) → called input.call ≡ Receive m → is_stale before.state.kept m ≡ true
-      → IsSaidBack before.state.kept m.from s → TakesBy Wrote (OfCall line input IsTurnHere k) TellsNoLine before after
-  back_taken m e stale is =
-      said_taken (Receive m) e
-      (is_received before.state k m
-      (only_writes before.state line (said_text (own_of before.state) k (name_in line) s)) true stale refl
-      (is_told_back before.state k m.from line s is))
-
-  pub instead_taken : (replica object : ℕ) (op : Op) → called input.call ≡ Submit replica object op
-      → (asked : Option ℕ) → asked ≡ asked_number line
-      → IsSaidInstead before.state.kept name (op_on object op) asked (Some s)
-      → TakesBy Wrote (OfCall line input IsTurnHere k) TellsNoLine before after
-  instead_taken replica object op e asked is_asked is =
-      said_taken (Submit replica object op) e
-      (said_here before.state k (op_on object op) (Submit replica object op) (asked_number line) line s
-      (subst (λ o. IsSaidInstead before.state.kept (name_in line) (op_on object op) o (Some s)) is_asked
-      (subst (λ m. IsSaidInstead before.state.kept m (op_on object op) asked (Some s)) is_name is)))
+      said_taken
+      (subst
+      (λ (x : WireCall). IsTurnHere before.objects before.state k x (only_says before.state k heard s)) (sym e)
+      (Some s, is, refl))
 
 -- what waits is sent once more
-module _ (Wrote : (before after : Option (List ℕ)) → List ℕ → Type 0) (k : ℕ) (line : List ℕ) (input : InputState)
+module _ (Wrote : (before after : Option (List ℕ)) → List ℕ → Type 0) (k : ℕ) (heard : Heard) (input : InputState)
     (before after : Io) (same : after.state ≡ before.state) (still : after.journal ≡ before.journal) (own : ℕ)
-    (is_own : own ≡ own_of before.state) (name : List ℕ) (is_name : name ≡ name_in line)
-    (e : called input.call ≡ Tick) where
+    (is_own : own ≡ own_of before.state) (e : called input.call ≡ Tick) where
   sent_taken : (text : List ℕ) → Wrote before.out after.out text
       → (mail : List code.Message) → whole_mail mail ≡ again before.state.kept
       → ((offered : Counts) → AreToldIn before.state.kept offered mail)
       → text ≡ letters_text (letters_of before.state.known before.state.kept (filter (is_owed before.state.known) mail))
-      → TakesBy Wrote (OfCall line input IsTurnHere k) TellsNoLine before after
+      → TakesBy Wrote (OfCall heard input IsTurnHere k) TellsNoLine before after
   sent_taken text w mail whole over is =
       let letters = letters_of before.state.known before.state.kept (filter (is_owed before.state.known) mail) in
-      let turn = only_sends before.state line letters in
+      let turn = only_sends before.state heard letters in
       record {
         turn = turn;
         is = (
@@ -137,25 +131,183 @@ module _ (Wrote : (before after : Option (List ℕ)) → List ℕ → Type 0) (k
         tells = refl;
       }
 
-  pub tick_taken : (s : Said) → Wrote before.out after.out (said_text own k name s)
+  starved_tick : (w : Why) → w ≡ why.Memory
+      → Wrote before.out after.out (said_text own k heard.name (said.Refused w))
+      → TakesBy Wrote (OfCall heard input IsTurnHere k) TellsNoLine before after
+  starved_tick w hungry wrote =
+      said_taken Wrote k heard input before after (said.Refused w) same still own is_own wrote
+      (subst
+      (λ (x : WireCall). IsTurnHere before.objects before.state k x
+      (only_says before.state k heard (said.Refused w))) (sym e)
+      (inr (ap (λ v. only_says before.state k heard (said.Refused v)) hungry)))
+
+  pub tick_taken : (s : Said) → Wrote before.out after.out (said_text own k heard.name s)
       → IsSaidAgain before.state.known before.state.kept s
-      → TakesBy Wrote (OfCall line input IsTurnHere k) TellsNoLine before after
+      → TakesBy Wrote (OfCall heard input IsTurnHere k) TellsNoLine before after
   tick_taken (said.Lines text) w is = sent_taken text.items w is.0 is.1 is.2 is.3
-  tick_taken said.NoSuchObject w is = absurd is
-  tick_taken said.Stale w is = absurd is
-  tick_taken said.Gap w is = absurd is
-  tick_taken said.Memory w is =
-      said_taken Wrote k line input before after said.Memory same still own is_own name is_name w Tick e (inr refl)
+  tick_taken (said.Refused w) wrote is = starved_tick w is wrote
 
 -- what another is known to have changes nothing else
-pub known_taken : (line : List ℕ) (input : InputState) (k : ℕ) (io : Io) (standing : Standing)
-    → called input.call ≡ Known standing → TakesLine (OfCall line input IsTurnHere k) TellsNoLine io io
-known_taken line input k io standing e =
-    takes_only Appends (OfCall line input IsTurnHere k) io io line [] (
+pub known_taken : (heard : Heard) (input : InputState) (k : ℕ) (io : Io) (standing : Standing)
+    → called input.call ≡ Known standing → TakesLine (OfCall heard input IsTurnHere k) TellsNoLine io io
+known_taken heard input k io standing e =
+    takes_only Appends (OfCall heard input IsTurnHere k) io io heard [] (
       refl,
-      subst (λ (x : WireCall). IsTurnHere io.objects io.state k x (only_writes io.state line [])) (sym e) refl,
+      subst (λ (x : WireCall). IsTurnHere io.objects io.state k x (only_writes io.state heard [])) (sym e) refl,
     )
     refl refl (Appends-nil io.out)
+
+-- ## Questions that no call says
+
+-- one for another node is passed over
+pub question_passed : (line : List ℕ) (q : Question) (k : ℕ) (io : Io) → (asks_of q == own_of io.state) ≡ false
+    → TakesLine (OfQuestion line q k) TellsNoLine io io
+question_passed line q k io other =
+    let t = only_writes io.state (heard_name line) [] in
+    takes_only Appends (OfQuestion line q k) io io (heard_name line) [] (
+      refl,
+      subst
+          (λ b.
+          OneOf b ((s : Said)
+          × IsSaidToQuestion io.objects io.state.kept io.state.known (heard_name line) q s
+          × (t ≡ only_says io.state k (heard_name line) s)) (t ≡ t))
+          (sym other) refl,
+    )
+    refl refl (Appends-nil io.out)
+
+pub question_said : (Wrote : (before after : Option (List ℕ)) → List ℕ → Type 0) (k : ℕ) (line : List ℕ) (q : Question)
+    (before after : Io) (s : Said) → after.state ≡ before.state → after.journal ≡ before.journal
+    → (asks_of q == own_of before.state) ≡ true → (own : ℕ) → own ≡ own_of before.state → (name : List ℕ)
+    → name ≡ (heard_name line).name → Wrote before.out after.out (said_text own k name s)
+    → IsSaidToQuestion before.objects before.state.kept before.state.known (heard_name line) q s
+    → TakesBy Wrote (OfQuestion line q k) TellsNoLine before after
+question_said Wrote k line q before after s same still ours own is_own name is_name w is =
+    let t = only_says before.state k (heard_name line) s in
+    takes_only Wrote (OfQuestion line q k) before after (heard_name line)
+    (said_text (own_of before.state) k (heard_name line).name s) (
+      refl,
+      subst
+          (λ b.
+          OneOf b ((s : Said)
+          × IsSaidToQuestion before.objects before.state.kept before.state.known (heard_name line) q s
+          × (t ≡ only_says before.state k (heard_name line) s)) (t ≡ only_writes before.state (heard_name line) []))
+          (sym ours) (s, is, refl),
+    )
+    same still
+    (subst (λ (o : ℕ). Wrote before.out after.out (said_text o k (heard_name line).name s)) is_own
+    (subst (λ m. Wrote before.out after.out (said_text own k m s)) is_name w))
+
+-- ## What takes an element out
+
+-- how a take is heard
+pub heard_so : (a : Asking) → IsAsking a → (take : Take) (tags : List UpdateId) (b : Asking) (call : List ℕ)
+    → b.line.now ≡ a.line.now → b.name.now ≡ a.name.now → b.after ≡ a.after → b.update ≡ take.number
+    → call ≡ (heard_take a.line.now take tags).call → heard_as b call ≡ heard_take a.line.now take tags
+heard_so a is take tags b call line name after update says =
+    λ i.
+    record {
+      line = line i;
+      name = (name ∙ is.name) i;
+      call = says i;
+      number = update i;
+      after = (after ∙ is.after) i;
+    }
+
+module _ (k : ℕ) (line : List ℕ) (take : Take) (before after : Io) where
+  -- it is heard so
+  pub take_heard : (as : Heard) → as ≡ heard_take line take (taken_tags before.objects before.state.kept take)
+      → leb (length (taken_tags before.objects before.state.kept take)) MAX_TAGS ≡ true → (t : Turn)
+      → OfHeard as k before after t → OfTake line take k before after t
+  take_heard as is few t (inl heard) =
+      let so = heard.0 ∙ is in (
+        ap (λ (h : Heard). h.line) so,
+        inl (subst
+            (λ b.
+            OneOf b
+            (IsHeardTurn before.objects before.state k
+            (heard_take t.heard.line take (taken_tags before.objects before.state.kept take)) t)
+            (t ≡ only_says before.state k (heard_name t.heard.line) (said.Refused why.TooManyTags)))
+            (sym few)
+            (so ∙ ap (λ l. heard_take l take (taken_tags before.objects before.state.kept take))
+            (sym (ap (λ (h : Heard). h.line) so)), heard.1)),
+      )
+  take_heard as is few t (inr hungry) =
+      let now : IsStarvedLine line k before after t =
+      subst (λ l. IsStarvedLine l k before after t) (ap (λ (h : Heard). h.line) is) hungry in
+      (ap (λ (u : Turn). u.heard.line) now, inr now)
+
+  pub take_starved : (t : Turn) → IsStarvedLine line k before after t → OfTake line take k before after t
+  take_starved t hungry = (ap (λ (u : Turn). u.heard.line) hungry, inr hungry)
+
+-- it is refused
+pub take_refused_so : (Wrote : (before after : Option (List ℕ)) → List ℕ → Type 0) (k : ℕ) (line : List ℕ) (take : Take)
+    (before after : Io) (w : Why) → after.state ≡ before.state → after.journal ≡ before.journal
+    → (own : ℕ) → own ≡ own_of before.state → (name : List ℕ) → name ≡ (heard_name line).name
+    → Wrote before.out after.out (said_text own k name (said.Refused w))
+    → leb (length (taken_tags before.objects before.state.kept take)) MAX_TAGS ≡ false → w ≡ why.TooManyTags
+    → TakesBy Wrote (OfTake line take k) TellsNoLine before after
+take_refused_so Wrote k line take before after w same still own is_own name is_name wrote many is =
+    let t = only_says before.state k (heard_name line) (said.Refused why.TooManyTags) in
+    takes_only Wrote (OfTake line take k) before after (heard_name line)
+    (said_text (own_of before.state) k (heard_name line).name (said.Refused why.TooManyTags)) (
+      refl,
+      inl (subst
+          (λ b.
+          OneOf b
+          (IsHeardTurn before.objects before.state k
+          (heard_take line take (taken_tags before.objects before.state.kept take)) t) (t ≡ t))
+          (sym many) refl),
+    )
+    same still
+    (subst (λ v. Wrote before.out after.out (said_text (own_of before.state) k (heard_name line).name (said.Refused v)))
+    is
+    (subst (λ (o : ℕ). Wrote before.out after.out (said_text o k (heard_name line).name (said.Refused w))) is_own
+    (subst (λ m. Wrote before.out after.out (said_text own k m (said.Refused w))) is_name wrote)))
+
+-- there was no memory
+pub take_hungry : (Wrote : (before after : Option (List ℕ)) → List ℕ → Type 0) (k : ℕ) (line : List ℕ) (take : Take)
+    (before after : Io) (w : Why) → after.state ≡ before.state → after.journal ≡ before.journal
+    → (own : ℕ) → own ≡ own_of before.state → (name : List ℕ) → name ≡ (heard_name line).name
+    → Wrote before.out after.out (said_text own k name (said.Refused w)) → w ≡ why.Memory
+    → TakesBy Wrote (OfTake line take k) TellsNoLine before after
+take_hungry Wrote k line take before after w same still own is_own name is_name wrote is =
+    takes_only Wrote (OfTake line take k) before after (heard_name line)
+    (said_text (own_of before.state) k (heard_name line).name (said.Refused why.Memory)) (refl, inr refl) same still
+    (subst (λ v. Wrote before.out after.out (said_text (own_of before.state) k (heard_name line).name (said.Refused v)))
+    is
+    (subst (λ (o : ℕ). Wrote before.out after.out (said_text o k (heard_name line).name (said.Refused w))) is_own
+    (subst (λ m. Wrote before.out after.out (said_text own k m (said.Refused w))) is_name wrote)))
+
+-- ## Any line that is no note
+
+module _ (k : ℕ) (line : List ℕ) (before after : Io) where
+  abbrev IsRequested : Option Question → Option Take → Turn → Type 0
+  IsRequested q take t = IsRequestTurn before.objects before.state k q take t ⊎ IsStarvedLine line k before after t
+
+  requested : (q : Option Question) (take : Option Take) → question_in (bare line) ≡ q → take_in (bare line) ≡ take
+      → (t : Turn) → t.heard.line ≡ line → IsRequested q take t → OfRequest line k before after t
+  requested q take is_q is_take t same is =
+      (same, subst (λ x. IsRequested x (take_in (bare line)) t) (sym is_q)
+          (subst (λ x. IsRequested q x t) (sym is_take) is))
+
+  pub of_question : (q : Question) → question_in (bare line) ≡ Some q → (t : Turn)
+      → OfQuestion line q k before after t → OfRequest line k before after t
+  of_question q is t (same, question) = requested (Some q) (take_in (bare line)) is refl t same (inl question)
+
+  pub of_take : (take : Take) → question_in (bare line) ≡ None → take_in (bare line) ≡ Some take → (t : Turn)
+      → OfTake line take k before after t → OfRequest line k before after t
+  of_take take no is t (same, does) = requested None (Some take) no is t same does
+
+  pub of_heard : (as : Heard) → as ≡ heard_call line → question_in (bare line) ≡ None → take_in (bare line) ≡ None
+      → (t : Turn) → OfHeard as k before after t → OfRequest line k before after t
+  of_heard as is no neither t (inl heard) =
+      let so = heard.0 ∙ is in
+      let same : t.heard.line ≡ line = ap (λ (h : Heard). h.line) so in
+      requested None None no neither t same (inl (so ∙ ap heard_call (sym same), heard.1))
+  of_heard as is no neither t (inr hungry) =
+      let now : IsStarvedLine line k before after t =
+      subst (λ l. IsStarvedLine l k before after t) (ap (λ (h : Heard). h.line) is) hungry in
+      requested None None no neither t (ap (λ (u : Turn). u.heard.line) now) (inr now)
 
 -- ## Whether a told set is known
 

@@ -8,6 +8,7 @@ use Rattle.la_wire.specs.Notes.{line_fault_line}
 use Rattle.la_io.specs.Sources.{IsOneLine}
 use Rattle.la_io.specs.Streams.{TellsLine, TellsAll}
 use Rattle.la_serve.specs.Io.{Io}
+use Rattle.la_serve.specs.Heard.{unheard}
 use Rattle.la_serve.specs.Turns.{faulty}
 use Rattle.la_serve.specs.Serving.{IsTurnStep, TakesLine}
 use Rattle.la_serve.proofs.Turns.{long_turn}
@@ -18,7 +19,7 @@ pub long_step : {E : Type 0} (heard : E → Option (List ℕ)) (refuses : E → 
     → Consumes before.left left (line ++ 10 ∷ []) → TellsLine heard refuses e1 e2 (line_fault_line k TooLong [])
     → TakesLine (IsTurnStep k) (TellsAll heard refuses e1 e2) before (record before { left = left })
 long_step heard refuses k before left e1 e2 line one lt read t = record {
-  turn = faulty before.state k line [] TooLong;
+  turn = faulty before.state k (unheard line) TooLong;
   is = record { is = long_turn before.objects before.state k line lt; one = one; read = read };
   now_is = refl;
   wrote = Appends-nil before.out;

@@ -69,6 +69,7 @@ cause_name kind.QuotaExceeded = codes "no space"
 cause_name kind.InvalidInput = codes "bad path"
 cause_name kind.InvalidFilename = codes "bad path"
 cause_name kind.Unsupported = codes "unsupported"
+cause_name kind.ResourceBusy = codes "another process has it"
 cause_name _ = codes "other error"
 
 -- the line that tells it, of this folder

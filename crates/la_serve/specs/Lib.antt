@@ -3,8 +3,10 @@ pub mod Objects
 pub mod Options
 pub mod Faults
 pub mod Numbered
-pub mod Turns
+pub mod Heard
 pub mod Said
+pub mod Takes
+pub mod Turns
 pub mod Io
 pub mod Asking
 pub mod Giving

@@ -8,7 +8,7 @@ use Rattle.la_replica.specs.ReplicaState.{ReplicaState, InInstance}
 use Rattle.la_wire.specs.Calls.{Submit}
 use Rattle.la_wire.specs.CallLines.{named_call}
 use Rattle.la_wire.specs.Notes.{submitted_note}
-use Rattle.la_wire.specs.Requests.{called_in, name_in, asked_number}
+use Rattle.la_serve.specs.Heard.{Heard}
 use Rattle.la_serve.specs.Numbered.{submissions_by, submission_under}
 use Rattle.la_serve.specs.Turns.{ServerState, Turn, IsTurn}
 use Rattle.la_serve.specs.Serving.{AreTurns}
@@ -22,22 +22,22 @@ abbrev pub AddsUnder : (number : ℕ) → ObjectOp → (before after : ReplicaSt
 AddsUnder number d before after =
     (number ≡ length (submissions_by before) + 1) × (submissions_by after ≡ submissions_by before ++ d ∷ [])
 
--- what a line asks of a replica: to submit this, under this number
-pub record AsksUnder (own : ℕ) (line : List ℕ) (number : ℕ) (d : ObjectOp) : Type 0 where
-  pub numbered : asked_number line ≡ Some number
-  pub says : named_call (called_in line) ≡ Some (Submit own d.object d.op)
+-- what a line asks of a replica, as it is heard: to submit this, under this number
+pub record AsksUnder (own : ℕ) (heard : Heard) (number : ℕ) (d : ObjectOp) : Type 0 where
+  pub numbered : heard.number ≡ Some number
+  pub says : named_call heard.call ≡ Some (Submit own d.object d.op)
 
 pub record NumbersCountOnce : Type 0 where
   -- a line under a number leaves the replica as it was, or adds what it asks, where the number comes next
   pub once : (objects : List (ℕ × Kind)) (n : ServerState) (k number : ℕ) (t : Turn) →
-      MayGoOn n.kept → IsTurn objects n k t → asked_number t.line ≡ Some number →
+      MayGoOn n.kept → IsTurn objects n k t → t.heard.number ≡ Some number →
       (t.after.kept ≡ n.kept)
-      ⊎ ((d : ObjectOp) × AsksUnder n.kept.own t.line number d × AddsUnder number d n.kept t.after.kept)
+      ⊎ ((d : ObjectOp) × AsksUnder n.kept.own t.heard number d × AddsUnder number d n.kept t.after.kept)
   -- where it is answered as submitted, what it asks stands under the number
   pub answered : (objects : List (ℕ × Kind)) (n : ServerState) (k number : ℕ) (t : Turn) (more : List ℕ) →
-      MayGoOn n.kept → IsTurn objects n k t → asked_number t.line ≡ Some number →
-      t.text ≡ submitted_note n.kept.own number (name_in t.line) ++ more →
-      (d : ObjectOp) × AsksUnder n.kept.own t.line number d × (submission_under t.after.kept number ≡ Some d)
+      MayGoOn n.kept → IsTurn objects n k t → t.heard.number ≡ Some number →
+      t.text ≡ submitted_note n.kept.own number t.heard.name ++ more →
+      (d : ObjectOp) × AsksUnder n.kept.own t.heard number d × (submission_under t.after.kept number ≡ Some d)
   -- and what stands under a number stands there after any lines
   pub stays : (objects : List (ℕ × Kind)) (n after : ServerState) (k number : ℕ) (turns : List Turn) (d : ObjectOp) →
       MayGoOn n.kept → AreTurns objects n k turns after →

@@ -11,7 +11,6 @@ use Rattle.la_wire.specs.Messages.{WireMessage, letter_message}
 use Rattle.la_wire.specs.Calls.{Receive}
 use Rattle.la_wire.specs.CallLines.{named_call}
 use Rattle.la_wire.specs.MessageLines.{message_text}
-use Rattle.la_wire.specs.Requests.{called_in}
 use Rattle.la_wire.specs.Writable.{IsTypedMessage}
 use Rattle.la_durable.specs.CallLines.{CallLine}
 use Rattle.la_durable.specs.Nodes.{step}
@@ -19,6 +18,7 @@ use Rattle.la_durable.specs.Restarts.{leads_from}
 use Rattle.la_world.specs.Calls.{replica_states_at_start}
 use Rattle.la_world.specs.LiveGroups.{LearntSet}
 use Rattle.la_world.specs.Together.{AreTogether}
+use Rattle.la_serve.specs.Heard.{heard_call}
 use Rattle.la_serve.specs.Turns.{ServerState, Turn, IsTurn}
 use Rattle.la_serve.specs.Starting.{newly_started}
 
@@ -45,9 +45,10 @@ IsHandedCall letters r line =
     (m : WireMessage) → named_call line ≡ Some (Receive m) → m.to ≡ r →
     (letter : Letter) × Contains letters letter × IsLineOf letter line
 
--- a line that it may be handed: so is what this calls for, apart from the name of a client's request
+-- A line that it may be handed: so is what this calls for, apart from what a client may put around that. A line that
+-- takes an element out calls for no message.
 abbrev pub IsHandedLine : List Letter → (r : ℕ) → (line : List ℕ) → Type 0
-IsHandedLine letters r line = IsHandedCall letters r (called_in line)
+IsHandedLine letters r line = IsHandedCall letters r (heard_call line).call
 
 -- started for the first time
 abbrev pub NewProcessesAreTogether : Type 0
@@ -61,7 +62,7 @@ TurnsKeepTogether =
     (nodes : List ServerState) (letters : List Letter) (learnt : List LearntSet) (objects : List (ℕ × Kind))
     (r k : ℕ) (n : ServerState) (t : Turn) →
     AreProcesses nodes letters learnt → slice_get nodes r ≡ Some n →
-    IsTurn objects n k t → IsHandedLine letters r t.line →
+    IsTurn objects n k t → IsHandedLine letters r t.heard.line →
     AreProcesses (slice_set nodes r t.after) (letters ++ t.sent) (learnt ++ t.learnt)
 
 -- One of them was this when it last gave something out. It was then handed these lines, and killed, and started again

@@ -1,74 +1,296 @@
--- What is written of a line that the journal does not gain.
-use Rattle.std.specs.Prelude.{◌≡◌, ◌≢◌, ⊤, ℕ, true, false, List, filter, codes, Option, Some, None}
+-- What is said of a line that the journal does not gain.
+use Rattle.std.specs.Prelude.{◌≡◌, ◌≢◌, ◌⊎◌, ◌≤◌, ◌<◌, ⊤, ⊥, ℕ, ◌==◌, nat_le, Bool, true, false, ◌&&◌, List, [], ◌++◌, filter, codes}
+use Rattle.std.specs.Prelude.{length, Option, Some, None, option_map, slice_get, if◌then◌else◌}
+use Rattle.std.specs.List.{list_all}
 use Rattle.la_set.specs.declared.counts.Counts.{Counts}
+use Rattle.la_set.specs.declared.tags.TheConstants.{MAX_TAGS}
+use Rattle.la_set.specs.declared.update.Op.{Op}
+use Rattle.la_set.specs.declared.update.Op.TheVariants as op
+use Rattle.la_set.specs.declared.update.Update.{Update}
+use Rattle.la_set.specs.declared.update.UpdateId.{UpdateId}
+use Rattle.la_set.specs.Counts.{count_in, counts_of, from_counts}
+use Rattle.la_set.specs.Histories.{Histories, history, count}
 use Rattle.la_set.specs.ObjectOps.{ObjectOp}
+use Rattle.la_proposer.specs.ProposerState.{ProposerState, op_on, submitted}
+use Rattle.la_commit.specs.declared.outcome.Outcome.{Outcome}
+use Rattle.la_object.specs.declared.error.ShelfError.{ShelfError}
+use Rattle.la_object.specs.declared.error.ShelfError.TheVariants.{NoSuchObject, TooManyTags, Memory, Taken, NotFresh}
 use Rattle.la_object.specs.declared.kind.Kind.{Kind}
 use Rattle.la_object.specs.declared.query.Query.{Query}
+use Rattle.la_object.specs.declared.query.Query.TheVariants as query
 use Rattle.la_object.specs.declared.query.Answer.{Answer}
-use Rattle.la_object.specs.Shelves.{answer_at}
+use Rattle.la_object.specs.Objects.{is_of_kind}
+use Rattle.la_object.specs.Shelves.{ShelfState, kind_at, answer_at, tags_at}
+use Rattle.la_replica.specs.declared.instance.Instance.{Instance}
 use Rattle.la_replica.specs.declared.message.Message as code
 use Rattle.la_replica.specs.Whole.{whole_mail}
 use Rattle.la_replica.specs.Again.{again}
 use Rattle.la_replica.specs.Bases.{AreToldIn}
+use Rattle.la_replica.specs.Progress.{progress_of}
+use Rattle.la_replica.specs.ReplicaState.{ReplicaState}
 use Rattle.la_node.specs.declared.link.Links.{Links}
+use Rattle.la_node.specs.Accepting.{has_counts}
 use Rattle.la_node.specs.Links.{letters_of, is_owed, standing_of}
-use Rattle.la_wire.specs.Notes.{answered_note, refused_note, submitted_note, letters_text, known_line}
+use Rattle.la_node.specs.Nodes.{returned_by}
+use Rattle.la_wire.specs.declared.questions.Question.{Question}
+use Rattle.la_wire.specs.declared.questions.Question.TheVariants.{Tags, Updates, Status}
+use Rattle.la_wire.specs.declared.status.NodeStatus.{NodeStatus}
+use Rattle.la_wire.specs.declared.status.Tally.{Tally}
+use Rattle.la_wire.specs.Calls.{WireCall, Submit, Decide, Ask, Tick, Receive, Known}
+use Rattle.la_wire.specs.Messages.{WireMessage, WireBody, Offer, Yes, No, Tell}
+use Rattle.la_wire.specs.Notes.{answered_note, refused_note, submitted_note, proposed_note, outcome_note, letters_text}
+use Rattle.la_wire.specs.Notes.{known_line, tags_note, updates_note, waiting_note}
+use Rattle.la_wire.specs.Status.{status_note}
 use Rattle.la_serve.specs.declared.said.Said.{Said}
 use Rattle.la_serve.specs.declared.said.Said.TheVariants as said
-use Rattle.la_replica.specs.ReplicaState.{ReplicaState}
-use Rattle.la_serve.specs.Numbered.{submission_under, is_next_number}
+use Rattle.la_serve.specs.declared.said.Why.{Why}
+use Rattle.la_serve.specs.declared.said.Why.TheVariants as why
+use Rattle.la_serve.specs.Heard.{Heard}
+use Rattle.la_serve.specs.Numbered.{submission_under, is_next_number, proposal_by}
+
+abbrev pub why_word : Why → List ℕ
+why_word why.NoSuchObject = codes "NoSuchObject"
+why_word why.Foreign = codes "Foreign"
+why_word why.Stale = codes "Stale"
+why_word why.Gap = codes "Gap"
+why_word why.TooManyTags = codes "TooManyTags"
+why_word why.Memory = codes "Memory"
 
 -- what is written, of line k, a request of this name
 abbrev pub said_text : (own k : ℕ) → (name : List ℕ) → Said → List ℕ
 said_text own k name (said.Lines text) = text.items
-said_text own k name said.NoSuchObject = refused_note own k (codes "NoSuchObject") name
-said_text own k name said.Stale = refused_note own k (codes "Stale") name
-said_text own k name said.Gap = refused_note own k (codes "Gap") name
-said_text own k name said.Memory = refused_note own k (codes "Memory") name
+said_text own k name (said.Refused w) = refused_note own k (why_word w) name
 
--- an object's answer, or that there is no such object; or there was no memory
+-- a text of which this holds; or there was no memory for it
+abbrev pub IsSaidText : (List ℕ → Type 0) → Said → Type 0
+IsSaidText Is (said.Lines text) = Is text.items
+IsSaidText Is (said.Refused w) = w ≡ why.Memory
+
+-- ## Questions
+
+-- what a shelf of such objects is asked by a node's view
+abbrev pub shelf_by : List (ℕ × Kind) → ReplicaState → ShelfState
+shelf_by objects n = record { view = n.view; objects = objects }
+
+-- an object's answer, or that there is no such object
 abbrev pub IsSaidAnswer : (own object : ℕ) → (name : List ℕ) → Option Answer → Said → Type 0
 IsSaidAnswer own object name o (said.Lines text) =
     (answer : Answer) × (o ≡ Some answer) × (text.items ≡ answered_note own object answer name)
-IsSaidAnswer own object name o said.NoSuchObject = o ≡ None
-IsSaidAnswer own object name o said.Stale = ⊥
-IsSaidAnswer own object name o said.Gap = ⊥
-IsSaidAnswer own object name o said.Memory = ⊤
+IsSaidAnswer own object name o (said.Refused w) = ((w ≡ why.NoSuchObject) × (o ≡ None)) ⊎ (w ≡ why.Memory)
 
--- what a shelf of such objects answers by a node's view
-abbrev pub answer_by : List (ℕ × Kind) → ReplicaState → (object : ℕ) → Query → Option Answer
-answer_by objects n object query = answer_at (record { view = n.view; objects = objects }) object query
+-- the live tags of an element, where they are no more than a remove may name
+abbrev pub IsSaidTags : (own object : ℕ) → (name : List ℕ) → Option (List UpdateId) → Said → Type 0
+IsSaidTags own object name o (said.Lines text) =
+    (tags : List UpdateId) × (o ≡ Some tags) × (length tags ≤ MAX_TAGS) × (text.items ≡ tags_note own object tags name)
+IsSaidTags own object name o (said.Refused w) =
+    ((w ≡ why.NoSuchObject) × (o ≡ None))
+    ⊎ (((w ≡ why.TooManyTags) × ((tags : List UpdateId) × (o ≡ Some tags) × (MAX_TAGS < length tags)))
+    ⊎ (w ≡ why.Memory))
 
--- what waits for an answer, once more, but for what is known to be known; or there was no memory
+-- why no tags are told
+abbrev pub IsUntagged : Option (List UpdateId) → ShelfError → Type 0
+IsUntagged o NoSuchObject = o ≡ None
+IsUntagged o TooManyTags = (tags : List UpdateId) × (o ≡ Some tags) × (MAX_TAGS < length tags)
+IsUntagged o Memory = ⊤
+IsUntagged o Taken = ⊥
+IsUntagged o NotFresh = ⊥
+
+-- how many updates of an object a set has, of each replica
+abbrev pub object_counts : Histories → (object : ℕ) → Counts
+object_counts view object =
+    from_counts (λ r. length (filter (λ (d : ObjectOp). d.object == object) (history view r)))
+
+-- a set has this update
+abbrev pub is_there : Histories → UpdateId → Bool
+is_there view id = nat_le id.number (count view id.replica)
+
+-- the update that a question waits for, where a view has it not
+abbrev pub still_awaited : Histories → Option UpdateId → Option UpdateId
+still_awaited view None = None
+still_awaited view (Some id) = if is_there view id then None else Some id
+
+abbrev pub IsSaidUnless : ReplicaState → (name : List ℕ) → (awaited : Option UpdateId) → (Said → Type 0) → Said
+    → Type 0
+IsSaidUnless n name None Is s = Is s
+IsSaidUnless n name (Some id) Is s = IsSaidText (λ text. text ≡ waiting_note n.own id name) s
+
+-- what answers a question, once the view has the update that it waits for; until then, that it waits
+abbrev pub IsSaidAfter : ReplicaState → (name : List ℕ) → (after : Option UpdateId) → (Said → Type 0) → Said → Type 0
+IsSaidAfter n name after Is s = IsSaidUnless n name (still_awaited n.view after) Is s
+
+-- ## How a node stands
+
+abbrev pub status_by : ReplicaState → Links → Tally → Option Instance → NodeStatus
+status_by n known tally None = record {
+  own = n.own;
+  replicas = length n.votes;
+  progress = progress_of n;
+  submitted = 0;
+  waiting = 0;
+  ballot = 0;
+  open = false;
+  known = known;
+  tally = tally;
+}
+status_by n known tally (Some x) = record {
+  own = n.own;
+  replicas = length n.votes;
+  progress = progress_of n;
+  submitted = submitted x.proposer;
+  waiting = length x.proposer.waiting;
+  ballot = if x.proposer.is_asking then x.proposer.number else 0;
+  open = x.proposer.is_asking;
+  known = known;
+  tally = tally;
+}
+
+-- by its instance 0, and by what its process counted
+abbrev pub status_of : ReplicaState → Links → Tally → NodeStatus
+status_of n known tally = status_by n known tally (slice_get n.instances 0)
+
+abbrev pub node_version : List ℕ
+node_version = codes "0.4.0"
+
+-- what its process counted is not told apart from other counts
+abbrev pub IsSaidStatus : ReplicaState → (known : Links) → (name : List ℕ) → Said → Type 0
+IsSaidStatus n known name s =
+    IsSaidText (λ text. (tally : Tally) × (text ≡ status_note (status_of n known tally) node_version name)) s
+
+-- whom a question is for
+abbrev pub asks_of : Question → ℕ
+asks_of (Tags replica object element) = replica
+asks_of (Updates replica object) = replica
+asks_of (Status replica) = replica
+
+-- what is said to a question that is no call
+abbrev pub IsSaidToQuestion : List (ℕ × Kind) → ReplicaState → (known : Links) → Heard → Question → Said → Type 0
+IsSaidToQuestion objects n known h (Tags replica object element) s =
+    IsSaidAfter n h.name h.after
+    (IsSaidTags n.own object h.name (tags_at (shelf_by objects n) object element)) s
+IsSaidToQuestion objects n known h (Updates replica object) s =
+    IsSaidAfter n h.name h.after
+    (IsSaidText (λ text. text ≡ updates_note n.own object (object_counts n.view object) h.name)) s
+IsSaidToQuestion objects n known h (Status replica) s = IsSaidStatus n known h.name s
+
+-- ## Ticks and messages
+
+-- what waits for an answer, once more, but for what is known to be known
 abbrev pub IsSaidAgain : (known : Links) → ReplicaState → Said → Type 0
-IsSaidAgain known n (said.Lines text) =
+IsSaidAgain known n s =
+    IsSaidText
+    (λ text.
     (mail : List code.Message) × (whole_mail mail ≡ again n) × ((offered : Counts) → AreToldIn n offered mail)
-    × (text.items ≡ letters_text (letters_of known n (filter (is_owed known) mail)))
-IsSaidAgain known n said.NoSuchObject = ⊥
-IsSaidAgain known n said.Stale = ⊥
-IsSaidAgain known n said.Gap = ⊥
-IsSaidAgain known n said.Memory = ⊤
+    × (text ≡ letters_text (letters_of known n (filter (is_owed known) mail)))) s
 
--- how far a node is; or there was no memory
-abbrev pub IsSaidBack : ReplicaState → (to : ℕ) → Said → Type 0
-IsSaidBack n to (said.Lines text) = text.items ≡ known_line (standing_of n to)
-IsSaidBack n to said.NoSuchObject = ⊥
-IsSaidBack n to said.Stale = ⊥
-IsSaidBack n to said.Gap = ⊥
-IsSaidBack n to said.Memory = ⊤
+-- an update of this number, or a later one, of the same replica is there
+abbrev pub is_reached : (view : Counts) → Update → Bool
+is_reached view u = nat_le u.id.number (count_in view u.id.replica)
 
--- that a submission was done under this number, or that another was, or none; or there was no memory for the first
+-- a set that was learnt is told, and by its counts it has no more than the view
+abbrev pub is_told_known : (view : Histories) → WireBody → Bool
+is_told_known view (Tell base more) = has_counts view base && list_all (is_reached (counts_of view)) more
+is_told_known view (Offer base more) = false
+is_told_known view Yes = false
+is_told_known view (No base more) = false
+
+-- a message that brings no news: it would change nothing, and nothing would be sent for it
+abbrev pub is_stale : ReplicaState → WireMessage → Bool
+is_stale n m = (m.instance == 0) && is_told_known n.view m.body
+
+-- it is answered by how far this node is, so that it is not sent again
+abbrev pub IsSaidOfMessage : ReplicaState → WireMessage → Option Said → Type 0
+IsSaidOfMessage n m None = is_stale n m ≡ false
+IsSaidOfMessage n m (Some s) =
+    (is_stale n m ≡ true) × IsSaidText (λ text. text ≡ known_line (standing_of n m.from)) s
+
+-- ## Submissions
+
+-- an object of a kind takes its own operations, and marks
+abbrev pub takes : Kind → Op → Bool
+takes kind op.Mark = true
+takes kind op = is_of_kind kind op
+
+-- by what an object of a kind that takes an operation can be asked
+abbrev pub query_for : Op → Option Query
+query_for (op.Inc by) = Some query.Total
+query_for (op.Dec by) = Some query.Total
+query_for (op.Raise to) = Some query.Largest
+query_for (op.Put element) = Some query.Size
+query_for (op.Remove tags) = Some query.Size
+query_for op.Mark = None
+query_for (op.Vote value sole) = None
+
+-- why an operation is none of an object's
+abbrev pub unfit : Option Kind → Op → Option Why
+unfit None op = Some why.NoSuchObject
+unfit (Some kind) op = if takes kind op then None else Some why.Foreign
+
+-- that a submission was done under this number, or that another was, or none
 abbrev pub IsSaidNumbered : (own number : ℕ) → (name : List ℕ) → ObjectOp → Option ObjectOp → Said → Type 0
 IsSaidNumbered own number name d o (said.Lines text) = (o ≡ Some d) × (text.items ≡ submitted_note own number name)
-IsSaidNumbered own number name d o said.NoSuchObject = ⊥
-IsSaidNumbered own number name d o said.Stale = (e : ObjectOp) × (o ≡ Some e) × (e ≢ d)
-IsSaidNumbered own number name d o said.Gap = o ≡ None
-IsSaidNumbered own number name d o said.Memory = o ≡ Some d
+IsSaidNumbered own number name d o (said.Refused w) =
+    ((w ≡ why.Stale) × ((e : ObjectOp) × (o ≡ Some e) × (e ≢ d)))
+    ⊎ (((w ≡ why.Gap) × (o ≡ None)) ⊎ ((w ≡ why.Memory) × (o ≡ Some d)))
 
--- this is said of a submission instead of doing it: under a number that is not the next
-abbrev pub IsSaidInstead : ReplicaState → (name : List ℕ) → ObjectOp → (asked : Option ℕ) → Option Said → Type 0
-IsSaidInstead n name d None None = ⊤
-IsSaidInstead n name d None (Some s) = ⊥
-IsSaidInstead n name d (Some number) None = is_next_number n number ≡ true
-IsSaidInstead n name d (Some number) (Some s) =
+-- under a number that is not the next, by what was submitted under it: this very one, another, or nothing
+abbrev pub IsSaidUnder : ReplicaState → (name : List ℕ) → ObjectOp → (asked : Option ℕ) → Option Said → Type 0
+IsSaidUnder n name d None None = ⊤
+IsSaidUnder n name d None (Some s) = ⊥
+IsSaidUnder n name d (Some number) None = is_next_number n number ≡ true
+IsSaidUnder n name d (Some number) (Some s) =
     (is_next_number n number ≡ false) × IsSaidNumbered n.own number name d (submission_under n number) s
+
+-- an operation that the object does not take is refused
+abbrev pub IsSaidUnlessFit : Option Why → ReplicaState → Heard → ObjectOp → Option Said → Type 0
+IsSaidUnlessFit (Some w) n h d o = o ≡ Some (said.Refused w)
+IsSaidUnlessFit None n h d o = IsSaidUnder n h.name d h.number o
+
+abbrev pub IsSaidOfSubmission : List (ℕ × Kind) → ReplicaState → Heard → ObjectOp → Option Said → Type 0
+IsSaidOfSubmission objects n h d o = IsSaidUnlessFit (unfit (kind_at objects d.object) d.op) n h d o
+
+-- ## Proposals
+
+abbrev pub is_vote_for : (value : ℕ) → Op → Bool
+is_vote_for value (op.Vote v sole) = v == value
+is_vote_for value _ = false
+
+-- this value is what was proposed
+abbrev pub is_this_value : (value : ℕ) → Option ObjectOp → Bool
+is_this_value value None = false
+is_this_value value (Some d) = is_vote_for value d.op
+
+abbrev pub outcome_text : (own commit : ℕ) → Option Outcome → List ℕ
+outcome_text own commit None = []
+outcome_text own commit (Some o) = outcome_note own commit o
+
+-- the value under way, once more: that it is proposed, and what came of it, where it is known
+abbrev pub IsSaidOfProposal : ReplicaState → (name : List ℕ) → (commit value : ℕ) → Option Said → Type 0
+IsSaidOfProposal n name commit value None = is_this_value value (proposal_by n commit) ≡ false
+IsSaidOfProposal n name commit value (Some s) =
+    (is_this_value value (proposal_by n commit) ≡ true)
+    × IsSaidText
+    (λ text. text ≡ proposed_note n.own commit name ++ outcome_text n.own commit (returned_by commit n)) s
+
+-- ## Calls
+
+-- a call that may be taken
+abbrev pub may_be_taken : WireCall → Bool
+may_be_taken (Submit replica object does) = true
+may_be_taken (Decide replica commit value) = true
+may_be_taken (Ask replica object query) = false
+may_be_taken Tick = false
+may_be_taken (Receive m) = true
+may_be_taken (Known standing) = false
+
+-- What is said of a call instead of taking it, if anything is. A tick sends letters, and of what is known of others
+-- nothing is said.
+abbrev pub IsSaidHere : List (ℕ × Kind) → ReplicaState → Heard → WireCall → Option Said → Type 0
+IsSaidHere objects n h (Submit replica object does) o = IsSaidOfSubmission objects n h (op_on object does) o
+IsSaidHere objects n h (Decide replica commit value) o = IsSaidOfProposal n h.name commit value o
+IsSaidHere objects n h (Ask replica object query) None = ⊥
+IsSaidHere objects n h (Ask replica object query) (Some s) =
+    IsSaidAfter n h.name h.after
+    (IsSaidAnswer n.own object h.name (answer_at (shelf_by objects n) object query)) s
+IsSaidHere objects n h Tick o = o ≡ None
+IsSaidHere objects n h (Receive m) o = IsSaidOfMessage n m o
+IsSaidHere objects n h (Known standing) o = o ≡ None

@@ -15,7 +15,12 @@ use Rattle.la_io.specs.Streams.{TellsAll}
 use Rattle.la_serve.specs.declared.error.NodeFault.{NodeFault}
 use Rattle.la_serve.specs.declared.error.NodeFault.TheVariants as fault
 use Rattle.la_serve.specs.Io.{Io, StepAt, io_in}
-use Rattle.la_serve.specs.Turns.{Turn, ServerState, IsTurn}
+use Rattle.la_durable.specs.declared.error.NodeError.TheVariants.{Memory}
+use Rattle.la_wire.specs.declared.questions.Question.{Question}
+use Rattle.la_wire.specs.declared.questions.Take.{Take}
+use Rattle.la_wire.specs.Questions.{question_in, take_in}
+use Rattle.la_serve.specs.Heard.{Heard, bare, heard_name}
+use Rattle.la_serve.specs.Turns.{Turn, ServerState, IsTurn, IsHeardTurn, IsQuestionTurn, IsRequestTurn, IsTakeTurn, turn_refused}
 
 -- these are the turns of a node from a state on, the first of which is line k's, and this is the state after them
 abbrev pub AreTurns : List (ℕ × Kind) → ServerState → (k : ℕ) → List Turn → (after : ServerState) → Type 0
@@ -23,7 +28,7 @@ AreTurns objects n k [] after = after ≡ n
 AreTurns objects n k (t ∷ turns) after = IsTurn objects n k t × AreTurns objects t.after (k + 1) turns after
 
 abbrev pub turn_lines : List Turn → List (List ℕ)
-turn_lines turns = map (λ (t : Turn). t.line) turns
+turn_lines turns = map (λ (t : Turn). t.heard.line) turns
 
 -- all that is written
 abbrev pub written : List Turn → List ℕ
@@ -41,13 +46,40 @@ turns_told turns = flat_map (λ (t : Turn). t.told) turns
 
 -- a turn of this line, from this place on
 abbrev pub OfLine : (line : List ℕ) → (k : ℕ) → (before after : Io) → Turn → Type 0
-OfLine line k before after t = (t.line ≡ line) × IsTurn before.objects before.state k t
+OfLine line k before after t = (t.heard.line ≡ line) × IsTurn before.objects before.state k t
 
--- of a line that says a call
-abbrev pub OfCall : (line : List ℕ) → InputState → (List (ℕ × Kind) → ServerState → (k : ℕ) → WireCall → Turn → Type 0)
+-- of a line that was heard so, and says a call
+abbrev pub OfCall : Heard → InputState → (List (ℕ × Kind) → ServerState → (k : ℕ) → WireCall → Turn → Type 0)
     → (k : ℕ) → (before after : Io) → Turn → Type 0
-OfCall line input Is k before after t =
-    (t.line ≡ line) × Is before.objects before.state k (called input.call) t
+OfCall heard input Is k before after t =
+    (t.heard ≡ heard) × Is before.objects before.state k (called input.call) t
+
+-- nothing was done, for want of memory
+abbrev pub IsStarvedLine : (line : List ℕ) → (k : ℕ) → (before after : Io) → Turn → Type 0
+IsStarvedLine line k before after t = t ≡ turn_refused before.state k (heard_name line) Memory
+
+-- of a line that was heard so, whether it says a call or has a fault
+abbrev pub OfHeard : Heard → (k : ℕ) → (before after : Io) → Turn → Type 0
+OfHeard heard k before after t =
+    IsHeardTurn before.objects before.state k heard t ⊎ IsStarvedLine heard.line k before after t
+
+-- of one that is a question which no call says
+abbrev pub OfQuestion : (line : List ℕ) → Question → (k : ℕ) → (before after : Io) → Turn → Type 0
+OfQuestion line q k before after t =
+    (t.heard.line ≡ line) × IsQuestionTurn before.objects before.state k q t
+
+-- of one that takes an element out
+abbrev pub OfTake : (line : List ℕ) → Take → (k : ℕ) → (before after : Io) → Turn → Type 0
+OfTake line take k before after t =
+    (t.heard.line ≡ line)
+    × (IsTakeTurn before.objects before.state k take t ⊎ IsStarvedLine line k before after t)
+
+-- of any that is no note
+abbrev pub OfRequest : (line : List ℕ) → (k : ℕ) → (before after : Io) → Turn → Type 0
+OfRequest line k before after t =
+    (t.heard.line ≡ line)
+    × (IsRequestTurn before.objects before.state k (question_in (bare line)) (take_in (bare line)) t
+    ⊎ IsStarvedLine line k before after t)
 
 -- a line was taken: what it comes to was written so, and is in the journal
 pub record TakesBy (Wrote : (before after : Option (List ℕ)) → List ℕ → Type 0)
@@ -89,8 +121,8 @@ TellsNoLine turns_told = turns_told ≡ []
 -- a turn, and what was read of its line
 pub record IsTurnStep (k : ℕ) (before after : Io) (t : Turn) : Type 0 where
   pub is : IsTurn before.objects before.state k t
-  pub one : IsOneLine t.line
-  pub read : Consumes before.left after.left (t.line ++ 10 ∷ [])
+  pub one : IsOneLine t.heard.line
+  pub read : Consumes before.left after.left (t.heard.line ++ 10 ∷ [])
 
 -- what is told of bytes behind the last line's end, where there are some
 abbrev pub cut_told : (k : ℕ) → (rest : List ℕ) → List (List ℕ)

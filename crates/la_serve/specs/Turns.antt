@@ -1,19 +1,13 @@
 -- What a line comes to: what is written of it, what the journal gains, and the state after it.
-use Rattle.std.specs.Prelude.{◌≡◌, ◌≢◌, ◌⊎◌, ℕ, ◌-◌, nat_lt, nat_le, ◌==◌, Bool, true, false, not, ◌&&◌, ◌||◌}
-use Rattle.std.specs.Prelude.{List, [], ◌∷◌, ◌++◌, codes, length, filter, Option, Some, None, if◌then◌else◌}
-use Rattle.std.specs.List.{list_all}
+use Rattle.std.specs.Prelude.{◌≡◌, ◌⊎◌, ℕ, ◌-◌, nat_lt, nat_le, ◌==◌, Bool, true, false, not, ◌||◌}
+use Rattle.std.specs.Prelude.{List, [], ◌∷◌, ◌++◌, length, filter, Option, Some, None, if◌then◌else◌}
 use Rattle.la_set.specs.declared.counts.Counts.{Counts}
-use Rattle.la_set.specs.declared.update.Update.{Update}
-use Rattle.la_set.specs.ObjectOps.{ObjectOp}
+use Rattle.la_set.specs.declared.tags.TheConstants.{MAX_TAGS}
 use Rattle.la_set.specs.Histories.{Histories, updates}
-use Rattle.la_set.specs.Counts.{count_in, counts_of}
-use Rattle.la_proposer.specs.ProposerState.{op_on}
+use Rattle.la_set.specs.Counts.{counts_of}
 use Rattle.la_commit.specs.declared.outcome.Outcome.{Outcome}
 use Rattle.la_commit.specs.Instances.{commit_of}
 use Rattle.la_object.specs.declared.kind.Kind.{Kind}
-use Rattle.la_object.specs.declared.query.Query.{Query}
-use Rattle.la_object.specs.declared.query.Answer.{Answer}
-use Rattle.la_object.specs.Shelves.{answer_at}
 use Rattle.la_replica.specs.declared.message.Message as code
 use Rattle.la_replica.specs.Whole.{whole_mail}
 use Rattle.la_replica.specs.Again.{again}
@@ -24,16 +18,17 @@ use Rattle.la_io.specs.Limits.{is_too_long}
 use Rattle.la_wire.specs.declared.error.LineFault.{LineFault}
 use Rattle.la_wire.specs.declared.error.LineFault.TheVariants.{TooLong}
 use Rattle.la_wire.specs.declared.error.LineError.TheVariants.{Fault}
-use Rattle.la_wire.specs.Messages.{WireMessage, WireBody, Offer, Yes, No, Tell}
+use Rattle.la_wire.specs.declared.questions.Question.{Question}
+use Rattle.la_wire.specs.declared.questions.Take.{Take}
 use Rattle.la_wire.specs.Calls.{WireCall, Submit, Decide, Ask, Tick, Receive, Known}
 use Rattle.la_wire.specs.CallLines.{named_call}
+use Rattle.la_wire.specs.Questions.{question_in, take_in}
 use Rattle.la_durable.specs.declared.error.NodeError.{NodeError}
 use Rattle.la_durable.specs.declared.error.NodeError.TheVariants.{Memory}
 use Rattle.la_durable.specs.CallLines.{is_line}
 use Rattle.la_node.specs.declared.link.Letter.{Letter}
 use Rattle.la_node.specs.declared.link.Links.{Links}
-use Rattle.la_node.specs.Accepting.{has_counts}
-use Rattle.la_node.specs.Links.{known_with, letters_of, is_owed, standing_of}
+use Rattle.la_node.specs.Links.{known_with, letters_of, is_owed}
 use Rattle.la_node.specs.Steps.{Given, given_of}
 use Rattle.la_durable.specs.Nodes.{acts, leaves_be}
 use Rattle.la_journal.specs.Staging.{kept_unless}
@@ -41,12 +36,16 @@ use Rattle.la_durable.specs.Errors.{IsForMemory}
 use Rattle.la_durable.specs.Inputs.{IsInputRefusal}
 use Rattle.la_serve.specs.declared.keeping.Kept.{Kept}
 use Rattle.la_serve.specs.declared.keeping.Kept.TheVariants as kept
+use Rattle.la_serve.specs.declared.said.Said.{Said}
+use Rattle.la_serve.specs.declared.said.Said.TheVariants as said
+use Rattle.la_serve.specs.declared.said.Why.TheVariants.{TooManyTags}
 use Rattle.la_world.specs.LiveGroups.{LearntSet, learnt_set}
 use Rattle.la_serve.specs.Names.{refusal_name}
-use Rattle.la_wire.specs.Notes.{submitted_note, proposed_note, learnt_note, view_note, outcome_note, answered_note}
-use Rattle.la_wire.specs.Notes.{refused_note, line_fault_line, letters_text, known_line}
-use Rattle.la_wire.specs.Requests.{called_in, name_in, asked_number}
-use Rattle.la_serve.specs.Numbered.{submission_under, is_next_number}
+use Rattle.la_wire.specs.Notes.{submitted_note, proposed_note, learnt_note, view_note, outcome_note}
+use Rattle.la_wire.specs.Notes.{refused_note, line_fault_line, letters_text}
+use Rattle.la_serve.specs.Heard.{Heard, unheard, bare, heard_name, heard_call, heard_take}
+use Rattle.la_serve.specs.Said.{said_text, IsSaidHere, IsSaidToQuestion, asks_of}
+use Rattle.la_serve.specs.Takes.{taken_tags}
 
 -- what a node stands on as it takes lines: what it keeps, and how far others are, as far as it heard
 pub record ServerState : Type 0 where
@@ -148,14 +147,14 @@ after_hearing n call = record { kept = n.kept; known = known_after n.kept n.know
 
 -- what a line comes to
 pub record Turn : Type 0 where
-  -- the line, without its end
-  pub line : List ℕ
+  -- the line, as it is heard
+  pub heard : Heard
   -- what is written of it
   pub text : List ℕ
   -- the letters among that, and the sets that it notes as learnt
   pub sent : List Letter
   pub learnt : List LearntSet
-  -- the lines that the journal gains by it: the line without the request's name and the submission's number, or none
+  -- the lines that the journal gains by it: what the line calls for, or none
   pub kept : List (List ℕ)
   -- what is told of it on standard error, line by line
   pub told : List (List ℕ)
@@ -163,15 +162,15 @@ pub record Turn : Type 0 where
   pub after : ServerState
 
 -- only this is written, and nothing changes
-abbrev pub only_writes : ServerState → (line text : List ℕ) → Turn
-only_writes n line text =
-    record { line = line; text = text; sent = []; learnt = []; kept = []; told = []; after = n }
+abbrev pub only_writes : ServerState → Heard → (text : List ℕ) → Turn
+only_writes n heard text =
+    record { heard = heard; text = text; sent = []; learnt = []; kept = []; told = []; after = n }
 
 -- or only these letters
-abbrev pub only_sends : ServerState → (line : List ℕ) → List Letter → Turn
-only_sends n line letters =
+abbrev pub only_sends : ServerState → Heard → List Letter → Turn
+only_sends n heard letters =
     record {
-      line = line;
+      heard = heard;
       text = letters_text letters;
       sent = letters;
       learnt = [];
@@ -180,20 +179,24 @@ only_sends n line letters =
       after = n;
     }
 
--- line k was refused for this
-abbrev pub turn_refused : ServerState → (k : ℕ) → (line : List ℕ) → NodeError → Turn
-turn_refused n k line e = only_writes n line (refused_note (own_of n) k (refusal_name e) (name_in line))
+-- or this is said, of line k
+abbrev pub only_says : ServerState → (k : ℕ) → Heard → Said → Turn
+only_says n k heard s = only_writes n heard (said_text (own_of n) k heard.name s)
 
--- line k, of a request of this name, has this fault: it is told, and nothing is written
-abbrev pub faulty : ServerState → (k : ℕ) → (line : List ℕ) → (name : List ℕ) → LineFault → Turn
-faulty n k line name fault =
+-- line k was refused for this
+abbrev pub turn_refused : ServerState → (k : ℕ) → Heard → NodeError → Turn
+turn_refused n k heard e = only_writes n heard (refused_note (own_of n) k (refusal_name e) heard.name)
+
+-- line k has this fault: it is told, and nothing is written
+abbrev pub faulty : ServerState → (k : ℕ) → Heard → LineFault → Turn
+faulty n k heard fault =
     record {
-      line = line;
+      heard = heard;
       text = [];
       sent = [];
       learnt = [];
       kept = [];
-      told = line_fault_line k fault name ∷ [];
+      told = line_fault_line k fault heard.name ∷ [];
       after = n;
     }
 
@@ -211,136 +214,119 @@ pub record IsCallTaken (n : ServerState) (call : WireCall) (t : Turn) : Type 0 w
   pub given : Given
   pub acted : acts n.kept call ≡ Some (given, t.after.kept)
   pub known : t.after.known ≡ n.known
-  pub written : t.text ≡ call_text (length (updates n.kept.view)) n.known t.after.kept call (name_in t.line) given
+  pub written : t.text ≡ call_text (length (updates n.kept.view)) n.known t.after.kept call t.heard.name given
   pub sent : t.sent ≡ letters_of n.known t.after.kept given.mail
   pub learnt : t.learnt ≡ noted_by n.kept.own call given
-  pub journal : t.kept ≡ kept_unless (leaves_be n.kept t.after.kept call given) (called_in t.line)
+  pub journal : t.kept ≡ kept_unless (leaves_be n.kept t.after.kept call given) t.heard.call
   pub silent : t.told ≡ []
 
 -- or it was refused, and then nothing has changed: where there is memory, exactly where the node has no step
 pub record IsRefused (n : ServerState) (k : ℕ) (call : WireCall) (t : Turn) : Type 0 where
   pub why : NodeError
   pub cause : IsForMemory why ⊎ (acts n.kept call ≡ None)
-  pub turn : t ≡ turn_refused n k t.line why
+  pub turn : t ≡ turn_refused n k t.heard why
+
+abbrev pub IsKeptTurn : ServerState → (k : ℕ) → WireCall → Turn → Type 0
+IsKeptTurn n k call t = IsCallTaken n call t ⊎ IsRefused n k call t
 
 -- nothing changed for want of memory
 abbrev pub IsStarved : ServerState → (k : ℕ) → Turn → Type 0
-IsStarved n k t = t ≡ turn_refused n k t.line Memory
-
--- a question is answered by the view; where there is no such object, this is said
-abbrev pub question_answered : ServerState → (k object : ℕ) → (line : List ℕ) → Option Answer → Turn
-question_answered n k object line None =
-    only_writes n line (refused_note (own_of n) k (codes "NoSuchObject") (name_in line))
-question_answered n k object line (Some answer) =
-    only_writes n line (answered_note (own_of n) object answer (name_in line))
-
--- by the kinds of the objects on the shelf
-abbrev pub question : List (ℕ × Kind) → ServerState → (k object : ℕ) → Query → (line : List ℕ) → Turn
-question objects n k object query line =
-    question_answered n k object line (answer_at (record { view = n.kept.view; objects = objects }) object query)
+IsStarved n k t = t ≡ turn_refused n k t.heard Memory
 
 -- what waits for an answer is sent once more, but for what is known to be known
 pub record IsSentAgain (n : ServerState) (t : Turn) : Type 0 where
   pub mail : List code.Message
   pub whole : whole_mail mail ≡ again n.kept
   pub over : (offered : Counts) → AreToldIn n.kept offered mail
-  pub turn : t ≡ only_sends n t.line (letters_of n.known n.kept (filter (is_owed n.known) mail))
-
-abbrev pub IsAnsweredTurn : List (ℕ × Kind) → ServerState → (k object : ℕ) → Query → Turn → Type 0
-IsAnsweredTurn objects n k object query t = (t ≡ question objects n k object query t.line) ⊎ IsStarved n k t
-
-abbrev pub IsTicked : ServerState → (k : ℕ) → Turn → Type 0
-IsTicked n k t = IsSentAgain n t ⊎ IsStarved n k t
-
-abbrev pub IsKeptTurn : ServerState → (k : ℕ) → WireCall → Turn → Type 0
-IsKeptTurn n k call t = IsCallTaken n call t ⊎ IsRefused n k call t
+  pub turn : t ≡ only_sends n t.heard (letters_of n.known n.kept (filter (is_owed n.known) mail))
 
 -- one of two
 abbrev pub OneOf : Bool → (A B : Type 0) → Type 0
 OneOf true A B = A
 OneOf false A B = B
 
--- line k was refused, with this word
-abbrev pub IsRefusedWith : (why : List ℕ) → ServerState → (k : ℕ) → Turn → Type 0
-IsRefusedWith why n k t = t ≡ only_writes n t.line (refused_note (own_of n) k why (name_in t.line))
+-- ## A call
 
--- a submission that was done under this number is answered once more
-abbrev pub IsToldAgain : ServerState → (k number : ℕ) → Turn → Type 0
-IsToldAgain n k number t =
-    (t ≡ only_writes n t.line (submitted_note (own_of n) number (name_in t.line))) ⊎ IsStarved n k t
+-- something is said of it, or it is taken
+abbrev pub IsSaidTurn : ServerState → (k : ℕ) → WireCall → Option Said → Turn → Type 0
+IsSaidTurn n k call None t = IsKeptTurn n k call t
+IsSaidTurn n k call (Some s) t = t ≡ only_says n k t.heard s
 
--- a submission under a number that is not the next, by what was submitted under it: this very one, another, or nothing
-abbrev pub IsNumberedAs : ServerState → (k number : ℕ) → ObjectOp → Option ObjectOp → Turn → Type 0
-IsNumberedAs n k number d None t = IsRefusedWith (codes "Gap") n k t
-IsNumberedAs n k number d (Some e) t =
-    ((e ≡ d) × IsToldAgain n k number t) ⊎ ((e ≢ d) × IsRefusedWith (codes "Stale") n k t)
-
--- a submission, under this number, where it says one: without one, or under the next, it is done
-abbrev pub IsSubmissionTurn : ServerState → (k : ℕ) → Option ℕ → ObjectOp → WireCall → Turn → Type 0
-IsSubmissionTurn n k None d call t = IsKeptTurn n k call t
-IsSubmissionTurn n k (Some number) d call t =
-    OneOf (is_next_number n.kept number) (IsKeptTurn n k call t)
-    (IsNumberedAs n k number d (submission_under n.kept number) t)
-
--- an update of this number, or a later one, of the same replica is there
-abbrev pub is_reached : (view : Counts) → Update → Bool
-is_reached view u = nat_le u.id.number (count_in view u.id.replica)
-
--- a set that was learnt is told, and by its counts it has no more than the view
-abbrev pub is_told_known : (view : Histories) → WireBody → Bool
-is_told_known view (Tell base more) = has_counts view base && list_all (is_reached (counts_of view)) more
-is_told_known view (Offer base more) = false
-is_told_known view Yes = false
-is_told_known view (No base more) = false
-
--- a message that brings no news: it would change nothing, and nothing would be sent for it
-abbrev pub is_stale : ReplicaState → WireMessage → Bool
-is_stale n m = (m.instance == 0) && is_told_known n.view m.body
-
--- it is answered by how far this node is, so that it is not sent again
-abbrev pub IsToldBack : ServerState → (k from : ℕ) → Turn → Type 0
-IsToldBack n k from t = (t ≡ only_writes n t.line (known_line (standing_of n.kept from))) ⊎ IsStarved n k t
-
-abbrev pub IsReceivedTurn : ServerState → (k : ℕ) → WireMessage → Turn → Type 0
-IsReceivedTurn n k m t = OneOf (is_stale n.kept m) (IsToldBack n k m.from t) (IsKeptTurn n k (Receive m) t)
+abbrev pub IsAnsweredTurn : List (ℕ × Kind) → ServerState → (k : ℕ) → WireCall → Turn → Type 0
+IsAnsweredTurn objects n k call t =
+    (o : Option Said) × IsSaidHere objects n.kept t.heard call o × IsSaidTurn n k call o t
 
 abbrev pub IsTurnHere : List (ℕ × Kind) → ServerState → (k : ℕ) → WireCall → Turn → Type 0
-IsTurnHere objects n k (Submit replica object op) t =
-    IsSubmissionTurn n k (asked_number t.line) (op_on object op) (Submit replica object op) t
-IsTurnHere objects n k (Decide replica commit value) t = IsKeptTurn n k (Decide replica commit value) t
-IsTurnHere objects n k (Ask replica object query) t = IsAnsweredTurn objects n k object query t
-IsTurnHere objects n k Tick t = IsTicked n k t
-IsTurnHere objects n k (Receive m) t = IsReceivedTurn n k m t
-IsTurnHere objects n k (Known standing) t = t ≡ only_writes n t.line []
+IsTurnHere objects n k (Submit replica object op) t = IsAnsweredTurn objects n k (Submit replica object op) t
+IsTurnHere objects n k (Decide replica commit value) t = IsAnsweredTurn objects n k (Decide replica commit value) t
+IsTurnHere objects n k (Ask replica object query) t = IsAnsweredTurn objects n k (Ask replica object query) t
+IsTurnHere objects n k Tick t = IsSentAgain n t ⊎ IsStarved n k t
+IsTurnHere objects n k (Receive m) t = IsAnsweredTurn objects n k (Receive m) t
+IsTurnHere objects n k (Known standing) t = t ≡ only_writes n t.heard []
 
 -- a call that is for another node is passed over
 abbrev pub IsTurnOf : List (ℕ × Kind) → ServerState → (k : ℕ) → WireCall → Turn → Type 0
 IsTurnOf objects n k call t =
-    OneOf (is_elsewhere n.kept call) (t ≡ only_writes n t.line []) (IsTurnHere objects n k call t)
+    OneOf (is_elsewhere n.kept call) (t ≡ only_writes n t.heard []) (IsTurnHere objects n k call t)
 
 -- first it is heard how far its sender is
 abbrev pub IsCallTurn : List (ℕ × Kind) → ServerState → (k : ℕ) → WireCall → Turn → Type 0
 IsCallTurn objects n k call t = IsTurnOf objects (after_hearing n call) k call t
 
--- a line that says a call, apart from the request's name and a submission's number, and that a journal may have
+-- a line that says a call which a journal may have
 pub record SaysCall (objects : List (ℕ × Kind)) (n : ServerState) (k : ℕ) (t : Turn) : Type 0 where
   pub call : WireCall
-  pub says : named_call (called_in t.line) ≡ Some call
-  pub stands : is_line (called_in t.line) ≡ true
+  pub says : named_call t.heard.call ≡ Some call
+  pub stands : is_line t.heard.call ≡ true
   pub turn : IsCallTurn objects n k call t
 
 -- one that has a fault
 pub record HasFault (n : ServerState) (k : ℕ) (t : Turn) : Type 0 where
   pub fault : LineFault
-  pub is : IsInputRefusal (called_in t.line) (Fault fault)
-  pub turn : t ≡ faulty n k t.line (name_in t.line) fault
+  pub is : IsInputRefusal t.heard.call (Fault fault)
+  pub turn : t ≡ faulty n k t.heard fault
+
+-- what was heard so
+abbrev pub IsHeardTurn : List (ℕ × Kind) → ServerState → (k : ℕ) → Heard → Turn → Type 0
+IsHeardTurn objects n k heard t = (t.heard ≡ heard) × (SaysCall objects n k t ⊎ HasFault n k t)
+
+-- this is said of a line of which no more than the name is heard
+abbrev pub IsSayingTurn : ServerState → (k : ℕ) → (Said → Type 0) → Turn → Type 0
+IsSayingTurn n k Is t = (s : Said) × Is s × (t ≡ only_says n k (heard_name t.heard.line) s)
+
+-- ## A question that is no call
+
+-- for this node, or passed over
+abbrev pub IsQuestionTurn : List (ℕ × Kind) → ServerState → (k : ℕ) → Question → Turn → Type 0
+IsQuestionTurn objects n k q t =
+    OneOf (asks_of q == own_of n)
+    (IsSayingTurn n k (IsSaidToQuestion objects n.kept n.known (heard_name t.heard.line) q) t)
+    (t ≡ only_writes n (heard_name t.heard.line) [])
+
+-- ## What takes an element out
+
+-- as a remove of what is to be taken; where that is too much for one it is refused
+abbrev pub IsTakeTurn : List (ℕ × Kind) → ServerState → (k : ℕ) → Take → Turn → Type 0
+IsTakeTurn objects n k take t =
+    OneOf (nat_le (length (taken_tags objects n.kept take)) MAX_TAGS)
+    (IsHeardTurn objects n k (heard_take t.heard.line take (taken_tags objects n.kept take)) t)
+    (t ≡ only_says n k (heard_name t.heard.line) (said.Refused TooManyTags))
+
+-- ## A line
+
+abbrev pub IsRequestTurn : List (ℕ × Kind) → ServerState → (k : ℕ) → Option Question → Option Take → Turn → Type 0
+IsRequestTurn objects n k (Some q) take t = IsQuestionTurn objects n k q t
+IsRequestTurn objects n k None (Some take) t = IsTakeTurn objects n k take t
+IsRequestTurn objects n k None None t = IsHeardTurn objects n k (heard_call t.heard.line) t
 
 -- a line that is not too long
 abbrev pub IsShortTurn : List (ℕ × Kind) → ServerState → (k : ℕ) → Turn → Type 0
 IsShortTurn objects n k t =
-    OneOf (is_note t.line) (t ≡ only_writes n t.line []) (SaysCall objects n k t ⊎ (HasFault n k t ⊎ IsStarved n k t))
+    OneOf (is_note t.heard.line) (t ≡ only_writes n (unheard t.heard.line) [])
+    (IsRequestTurn objects n k (question_in (bare t.heard.line)) (take_in (bare t.heard.line)) t
+    ⊎ (t ≡ turn_refused n k (heard_name t.heard.line) Memory))
 
 -- what line k comes to, where the node keeps this before it: of one that is too long no name is known
 unfoldable pub IsTurn : List (ℕ × Kind) → ServerState → (k : ℕ) → Turn → Type 0
 IsTurn objects n k t =
-    OneOf (is_too_long t.line) (t ≡ faulty n k t.line [] TooLong) (IsShortTurn objects n k t)
+    OneOf (is_too_long t.heard.line) (t ≡ faulty n k (unheard t.heard.line) TooLong) (IsShortTurn objects n k t)

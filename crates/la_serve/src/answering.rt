@@ -1,36 +1,40 @@
 // What a node does with one line.
-ghost use Rattle.std.specs.Prelude.{◌≡◌, ◌≤◌, true, false, length, IfErr, OnOk, OnErr};
-ghost use Rattle.la_io.specs.Streams.{Writes, WritesPrefix};
+ghost use Rattle.std.specs.Prelude.{◌≡◌, ◌≤◌, true, false, None, length, IfOk, IfErr, OnOk, OnErr};
+ghost use Rattle.la_set.specs.declared.update.Op.TheVariants as op;
+ghost use Rattle.la_io.specs.Streams.{Writes, WritesPrefix, TellsAll};
 ghost use Rattle.la_io.specs.Limits.{is_too_long};
-ghost use Rattle.la_wire.specs.Calls.{called};
-ghost use Rattle.la_wire.specs.Messages.{said_content, letter_message};
-ghost use Rattle.la_io.specs.Streams.{TellsAll};
+ghost use Rattle.la_wire.specs.Calls.{called, Submit};
+ghost use Rattle.la_wire.specs.CallLines.{call_line_text};
 ghost use Rattle.la_durable.specs.Nodes.{kept_by};
-ghost use Rattle.std.specs.List.{list_all};
-ghost use Rattle.la_set.specs.Inclusion.{IsSubset};
-ghost use Rattle.la_serve.specs.Turns.{known_after, is_note, is_elsewhere, IsKeptTurn, IsTurnOf, IsCallTurn, IsTurnHere, is_stale, is_told_known, is_reached};
-ghost use Rattle.la_object.specs.Shelves.{answer_at};
-ghost use Rattle.la_serve.specs.Said.{said_text, IsSaidAnswer, answer_by, IsSaidAgain, IsSaidBack};
+ghost use Rattle.la_serve.specs.Asking.{IsAsking, heard_as};
+ghost use Rattle.la_serve.specs.Heard.{bare};
+ghost use Rattle.la_serve.specs.Said.{said_text, may_be_taken};
+ghost use Rattle.la_serve.specs.Turns.{known_after, is_note, is_elsewhere, IsKeptTurn, IsTurnOf, IsCallTurn, IsTurnHere};
 ghost use Rattle.la_serve.specs.Io.{io_of, TakesLines, OnlyStages};
-ghost use Rattle.la_serve.specs.Serving.{OfLine, OfCall, TakesLine, Breaks, TellsNoLine};
-ghost use Rattle.la_serve.specs.Asking.{IsAskingFor};
+ghost use Rattle.la_serve.specs.Serving.{OfLine, OfCall, OfHeard, OfQuestion, OfRequest, OfTake, IsStarvedLine};
+ghost use Rattle.la_serve.specs.Serving.{TakesLine, Breaks, TellsNoLine};
 
-use crate::asking::{Asking, read_called};
+use crate::asking::{Asking, Request, request_of, unawaited};
+use crate::counting::{count_known, count_mail, count_received, count_refused};
 use crate::keeping::{Kept, keep};
 use crate::names::refusal_name;
-use crate::numbered::said_instead;
-use crate::said::Said;
-use crate::texts::{answer_text, mail_text, standing_text, text_of};
+use crate::questions::{asks_of, said_to};
+use crate::said::{Said, why_word};
+use crate::saying::{said_again, said_here, said_to_call};
+use crate::taking::taken_tags;
+use crate::texts::text_of;
 use crate::{NodeFault, Server};
 use la_durable::{Input, NodeMachine};
 use la_io::{Listener, WriteFailed, write_lines};
 use la_journal::Disk;
-use la_node::{Letter, Links};
-use la_object::{Query, Replicated, Shelf, ShelfError};
-use la_replica::Content;
-use la_set::{Counts, Delta, UpdateSet};
-use la_wire::{Call, LineError, MAX_NAME, refuse, request_in, tell_fault};
-use std::alloc::Global;
+use la_node::Links;
+use la_object::Replicated;
+use la_set::{Op, Tags};
+use la_wire::{
+    Call, LineError, MAX_NAME, NumberedCall, Question, Take, Tally, refuse, request_in, tell_fault,
+    write,
+};
+use std::alloc::{AllocError, Global};
 use std::io::Write;
 
 // Whether a line is passed over: it is empty, or a note.
@@ -62,37 +66,6 @@ fn is_elsewhere(machine: &NodeMachine, call: &Call) -> bool
     }
 }
 
-// Whether a letter brings no news.
-fn is_stale(machine: &NodeMachine, letter: &Letter) -> bool
-    ensures { result ≡ is_stale (kept_by machine.now) (letter_message letter.now) }
-{
-    letter.parcel.instance == 0 && is_known(machine.node.view(), &letter.parcel.content)
-}
-
-// Whether a set is told that has no more than a view, by its counts.
-fn is_known(view: &UpdateSet, content: &Content) -> bool
-    ensures { result ≡ is_told_known view.now (said_content content.now) }
-{
-    match content {
-        Content::Tell(delta) => view.has_counts(delta.base()) && is_within(view.counts(), delta),
-        Content::Offer(_) | Content::Yes | Content::No(_) => false,
-    }
-}
-
-// Whether no update beyond a delta's base has a number over these counts.
-fn is_within(counts: Counts, delta: &Delta) -> bool
-    ensures { result ≡ list_all (is_reached counts) delta.now.more }
-{
-    let mut within = true;
-    for place in 0..delta.len() {
-        let Some(update) = delta.at(place) else {
-            unreachable!()
-        };
-        within = within && update.id.number <= counts.of(update.id.replica);
-    }
-    within
-}
-
 // Takes note of how far the replica of this group is that a call comes from.
 fn hear(links: &mut Links, machine: &NodeMachine, call: &Call)
     ensures { links.new ≡ known_after (kept_by machine.now) links.old (called call.now) }
@@ -118,12 +91,14 @@ fn take<W: Write, D: Disk, B: Replicated>(
     output: &mut W,
 ) -> Result<(), NodeFault>
     requires takes { TakesLines server.old }
-    requires asked { IsAskingFor asking input.now }
-    ensures ok { OnOk result (TakesLine (OfCall asking.entry.line.now input.now (λ _. IsKeptTurn) asking.entry.number) TellsNoLine (io_of (W.contents output.old) server.old) (io_of (W.contents output.new) server.new)) }
-    ensures err { IfErr result (Breaks (OfCall asking.entry.line.now input.now (λ _. IsKeptTurn) asking.entry.number) TellsNoLine (io_of (W.contents output.old) server.old) (io_of (W.contents output.new) server.new)) }
+    requires short { length asking.entry.name.now ≤ MAX_NAME }
+    ensures ok { OnOk result (TakesLine (OfCall (heard_as asking.entry input.now.line) input.now (λ _. IsKeptTurn) asking.entry.number) TellsNoLine (io_of (W.contents output.old) server.old) (io_of (W.contents output.new) server.new)) }
+    ensures err { IfErr result (Breaks (OfCall (heard_as asking.entry input.now.line) input.now (λ _. IsKeptTurn) asking.entry.number) TellsNoLine (io_of (W.contents output.old) server.old) (io_of (W.contents output.new) server.new)) }
     ensures stages { OnlyStages server.old server.new }
 {
-    let Server { node, links, .. } = server;
+    let Server {
+        node, links, tally, ..
+    } = server;
     let own = node.durable.machine.node.own();
     let before = node.durable.machine.node.view().len();
     match keep(alloc, node, input) {
@@ -137,12 +112,14 @@ fn take<W: Write, D: Disk, B: Replicated>(
             &given,
         ) {
             Ok(text) => {
+                count_mail(&mut tally.sent, &given.done.mail);
                 write_lines(output, &text)?;
                 Ok(())
             }
             Err(_) => Err(NodeFault::Memory),
         },
         Kept::Refused(refusal) => {
+            count_refused(tally);
             refuse(
                 output,
                 own,
@@ -155,57 +132,10 @@ fn take<W: Write, D: Disk, B: Replicated>(
     }
 }
 
-// What an object on a shelf answers by a node's view, which the shelf absorbs first, to a request of this name.
-fn said_by_view<B: Replicated>(
-    alloc: Global,
-    machine: &NodeMachine,
-    shelf: &mut Shelf<B>,
-    question: (u16, &Query),
-    name: &str,
-) -> Said
-    requires { IsSubset shelf.old.view machine.now.node.replica.view }
-    ensures said { IsSaidAnswer machine.now.node.replica.own question.entry.0 name.now
-        (answer_by shelf.old.objects (kept_by machine.now) question.entry.0 question.entry.1.now) result }
-    ensures objects { shelf.new.objects ≡ shelf.old.objects }
-    ensures within { IsSubset shelf.new.view machine.now.node.replica.view }
-{
-    let (object, query) = question;
-    match shelf.ask_by(machine.node.view(), object, query) {
-        Ok(answer) => match answer_text(alloc, machine.node.own(), object, &answer, name) {
-            Ok(text) => Said::Lines(text),
-            Err(_) => Said::Memory,
-        },
-        Err(ShelfError::NoSuchObject) => Said::NoSuchObject,
-        Err(_) => Said::Memory,
-    }
-}
-
-// What waits for an answer, once more.
-fn said_again(alloc: Global, machine: &NodeMachine, links: &Links) -> Said
-    ensures { IsSaidAgain links.now (kept_by machine.now) result }
-{
-    let Ok(mail) = machine.node.again() else {
-        return Said::Memory;
-    };
-    match mail_text(alloc, links, &machine.node, &mail) {
-        Ok(text) => Said::Lines(text),
-        Err(_) => Said::Memory,
-    }
-}
-
-// How far a node is, for another whose letter brought no news.
-fn said_back(alloc: Global, machine: &NodeMachine, to: u8) -> Said
-    ensures { IsSaidBack (kept_by machine.now) to result }
-{
-    match standing_text(alloc, &machine.node.standing(to)) {
-        Ok(text) => Said::Lines(text),
-        Err(_) => Said::Memory,
-    }
-}
-
 // Writes it.
 fn put<W: Write>(
     output: &mut W,
+    tally: &mut Tally,
     own: u8,
     asking: Asking<'_>,
     said: &Said,
@@ -216,10 +146,39 @@ fn put<W: Write>(
 {
     match said {
         Said::Lines(text) => write_lines(output, text),
-        Said::NoSuchObject => refuse(output, own, asking.number, "NoSuchObject", asking.name),
-        Said::Stale => refuse(output, own, asking.number, "Stale", asking.name),
-        Said::Gap => refuse(output, own, asking.number, "Gap", asking.name),
-        Said::Memory => refuse(output, own, asking.number, "Memory", asking.name),
+        Said::Refused(why) => {
+            count_refused(tally);
+            refuse(output, own, asking.number, why_word(*why), asking.name)
+        }
+    }
+}
+
+// A call that may be taken: what is said of it instead, or it is taken.
+fn take_or_say<W: Write, D: Disk, B: Replicated>(
+    alloc: Global,
+    server: &mut Server<D, B>,
+    asking: Asking<'_>,
+    input: &Input,
+    output: &mut W,
+) -> Result<(), NodeFault>
+    requires takes { TakesLines server.old }
+    requires short { length asking.entry.name.now ≤ MAX_NAME }
+    requires may { may_be_taken (called input.now.call) ≡ true }
+    ensures ok { OnOk result (TakesLine (OfCall (heard_as asking.entry input.now.line) input.now IsTurnHere asking.entry.number) TellsNoLine (io_of (W.contents output.old) server.old) (io_of (W.contents output.new) server.new)) }
+    ensures err { IfErr result (Breaks (OfCall (heard_as asking.entry input.now.line) input.now IsTurnHere asking.entry.number) TellsNoLine (io_of (W.contents output.old) server.old) (io_of (W.contents output.new) server.new)) }
+    ensures stages { OnlyStages server.old server.new }
+{
+    let machine = &server.node.durable.machine;
+    match said_here(alloc, machine, &server.shelf, asking, input.call()) {
+        Some(said) => {
+            let own = machine.node.own();
+            if let Call::Receive(_) = input.call() {
+                count_known(&mut server.tally.sent);
+            }
+            put(output, &mut server.tally, own, asking, &said)?;
+            Ok(())
+        }
+        None => take(alloc, server, asking, input, output),
     }
 }
 
@@ -232,44 +191,34 @@ fn call_here<W: Write, D: Disk, B: Replicated>(
     output: &mut W,
 ) -> Result<(), NodeFault>
     requires takes { TakesLines server.old }
-    requires asked { IsAskingFor asking input.now }
-    ensures ok { OnOk result (TakesLine (OfCall asking.entry.line.now input.now IsTurnHere asking.entry.number) TellsNoLine (io_of (W.contents output.old) server.old) (io_of (W.contents output.new) server.new)) }
-    ensures err { IfErr result (Breaks (OfCall asking.entry.line.now input.now IsTurnHere asking.entry.number) TellsNoLine (io_of (W.contents output.old) server.old) (io_of (W.contents output.new) server.new)) }
+    requires short { length asking.entry.name.now ≤ MAX_NAME }
+    ensures ok { OnOk result (TakesLine (OfCall (heard_as asking.entry input.now.line) input.now IsTurnHere asking.entry.number) TellsNoLine (io_of (W.contents output.old) server.old) (io_of (W.contents output.new) server.new)) }
+    ensures err { IfErr result (Breaks (OfCall (heard_as asking.entry input.now.line) input.now IsTurnHere asking.entry.number) TellsNoLine (io_of (W.contents output.old) server.old) (io_of (W.contents output.new) server.new)) }
     ensures stages { OnlyStages server.old server.new }
 {
     match input.call() {
         Call::Ask { object, query, .. } => {
-            let Server { node, shelf, .. } = server;
+            let Server {
+                node, shelf, tally, ..
+            } = server;
             let machine = &node.durable.machine;
-            let said = said_by_view(alloc, machine, shelf, (*object, query), asking.name);
-            put(output, machine.node.own(), asking, &said)?;
+            let said = said_to_call(alloc, machine, shelf, asking, (*object, query));
+            put(output, tally, machine.node.own(), asking, &said)?;
             Ok(())
         }
         Call::Tick => {
-            let Server { node, links, .. } = server;
+            let Server {
+                node, links, tally, ..
+            } = server;
             let machine = &node.durable.machine;
-            let said = said_again(alloc, machine, links);
-            put(output, machine.node.own(), asking, &said)?;
-            Ok(())
-        }
-        Call::Receive(letter) if is_stale(&server.node.durable.machine, letter) => {
-            let machine = &server.node.durable.machine;
-            let said = said_back(alloc, machine, letter.parcel.from);
-            put(output, machine.node.own(), asking, &said)?;
+            let said = said_again(alloc, machine, links, &mut tally.sent);
+            put(output, tally, machine.node.own(), asking, &said)?;
             Ok(())
         }
         Call::Known(_) => Ok(()),
-        Call::Submit { object, op, .. } => {
-            let machine = &server.node.durable.machine;
-            match said_instead(alloc, machine, asking.update, (*object, op), asking.name) {
-                Some(said) => {
-                    put(output, machine.node.own(), asking, &said)?;
-                    Ok(())
-                }
-                None => take(alloc, server, asking, input, output),
-            }
-        }
-        Call::Decide { .. } | Call::Receive(_) => take(alloc, server, asking, input, output),
+        Call::Submit { .. } => take_or_say(alloc, server, asking, input, output),
+        Call::Decide { .. } => take_or_say(alloc, server, asking, input, output),
+        Call::Receive(_) => take_or_say(alloc, server, asking, input, output),
     }
 }
 
@@ -282,9 +231,9 @@ fn call_heard<W: Write, D: Disk, B: Replicated>(
     output: &mut W,
 ) -> Result<(), NodeFault>
     requires takes { TakesLines server.old }
-    requires asked { IsAskingFor asking input.now }
-    ensures ok { OnOk result (TakesLine (OfCall asking.entry.line.now input.now IsTurnOf asking.entry.number) TellsNoLine (io_of (W.contents output.old) server.old) (io_of (W.contents output.new) server.new)) }
-    ensures err { IfErr result (Breaks (OfCall asking.entry.line.now input.now IsTurnOf asking.entry.number) TellsNoLine (io_of (W.contents output.old) server.old) (io_of (W.contents output.new) server.new)) }
+    requires short { length asking.entry.name.now ≤ MAX_NAME }
+    ensures ok { OnOk result (TakesLine (OfCall (heard_as asking.entry input.now.line) input.now IsTurnOf asking.entry.number) TellsNoLine (io_of (W.contents output.old) server.old) (io_of (W.contents output.new) server.new)) }
+    ensures err { IfErr result (Breaks (OfCall (heard_as asking.entry input.now.line) input.now IsTurnOf asking.entry.number) TellsNoLine (io_of (W.contents output.old) server.old) (io_of (W.contents output.new) server.new)) }
     ensures stages { OnlyStages server.old server.new }
 {
     if is_elsewhere(&server.node.durable.machine, input.call()) {
@@ -302,19 +251,172 @@ fn call<W: Write, D: Disk, B: Replicated>(
     output: &mut W,
 ) -> Result<(), NodeFault>
     requires takes { TakesLines server.old }
-    requires asked { IsAskingFor asking input.now }
-    ensures ok { OnOk result (TakesLine (OfCall asking.entry.line.now input.now IsCallTurn asking.entry.number) TellsNoLine (io_of (W.contents output.old) server.old) (io_of (W.contents output.new) server.new)) }
-    ensures err { IfErr result (Breaks (OfCall asking.entry.line.now input.now IsCallTurn asking.entry.number) TellsNoLine (io_of (W.contents output.old) server.old) (io_of (W.contents output.new) server.new)) }
+    requires short { length asking.entry.name.now ≤ MAX_NAME }
+    ensures ok { OnOk result (TakesLine (OfCall (heard_as asking.entry input.now.line) input.now IsCallTurn asking.entry.number) TellsNoLine (io_of (W.contents output.old) server.old) (io_of (W.contents output.new) server.new)) }
+    ensures err { IfErr result (Breaks (OfCall (heard_as asking.entry input.now.line) input.now IsCallTurn asking.entry.number) TellsNoLine (io_of (W.contents output.old) server.old) (io_of (W.contents output.new) server.new)) }
     ensures stages { OnlyStages server.old server.new }
 {
-    let Server { node, links, .. } = &mut *server;
+    let Server {
+        node, links, tally, ..
+    } = &mut *server;
     hear(links, &node.durable.machine, input.call());
+    count_received(&mut tally.received, input.call());
     call_heard(alloc, server, asking, input, output)
 }
 
+// Refuses a line for want of memory.
+fn starve<W: Write, D: Disk, B: Replicated>(
+    server: &Server<D, B>,
+    asking: Asking<'_>,
+    output: &mut W,
+) -> Result<(), NodeFault>
+    requires { IsAsking asking.entry }
+    ensures ok { OnOk result (TakesLine (IsStarvedLine asking.entry.line.now asking.entry.number) TellsNoLine (io_of (W.contents output.old) server.now) (io_of (W.contents output.new) server.now)) }
+    ensures err { IfErr result (Breaks (IsStarvedLine asking.entry.line.now asking.entry.number) TellsNoLine (io_of (W.contents output.old) server.now) (io_of (W.contents output.new) server.now)) }
+{
+    let own = server.node.durable.machine.node.own();
+    refuse(output, own, asking.number, "Memory", asking.name)?;
+    Ok(())
+}
+
+// A line that was heard, by what it calls for.
+fn heard<W: Write, E: Listener, D: Disk, B: Replicated>(
+    alloc: Global,
+    server: &mut Server<D, B>,
+    asking: Asking<'_>,
+    line: &[u8],
+    output: &mut W,
+    errors: &mut E,
+) -> Result<(), NodeFault>
+    requires takes { TakesLines server.old }
+    requires asked { IsAsking asking.entry }
+    ensures ok { OnOk result (TakesLine (OfHeard (heard_as asking.entry line.now) asking.entry.number) (TellsAll E.contents E.refuses errors.old errors.new) (io_of (W.contents output.old) server.old) (io_of (W.contents output.new) server.new)) }
+    ensures err { IfErr result (Breaks (OfHeard (heard_as asking.entry line.now) asking.entry.number) (TellsAll E.contents E.refuses errors.old errors.new) (io_of (W.contents output.old) server.old) (io_of (W.contents output.new) server.new)) }
+    ensures stages { OnlyStages server.old server.new }
+{
+    match Input::read(alloc, line) {
+        Ok(input) => {
+            // a hint to the prover: what the input says
+            let _call = input.call();
+            call(alloc, server, asking, &input, output)
+        }
+        Err(LineError::Fault(fault)) => {
+            tell_fault(errors, asking.number, fault, asking.name);
+            Ok(())
+        }
+        Err(LineError::Memory) => starve(server, asking, output),
+    }
+}
+
+// A question that no call says.
+fn question<W: Write, D: Disk, B: Replicated>(
+    alloc: Global,
+    server: &mut Server<D, B>,
+    asking: Asking<'_>,
+    question: Question,
+    output: &mut W,
+) -> Result<(), NodeFault>
+    requires takes { TakesLines server.old }
+    requires asked { IsAsking asking.entry }
+    ensures ok { OnOk result (TakesLine (OfQuestion asking.entry.line.now question asking.entry.number) TellsNoLine (io_of (W.contents output.old) server.old) (io_of (W.contents output.new) server.new)) }
+    ensures err { IfErr result (Breaks (OfQuestion asking.entry.line.now question asking.entry.number) TellsNoLine (io_of (W.contents output.old) server.old) (io_of (W.contents output.new) server.new)) }
+    ensures stages { OnlyStages server.old server.new }
+{
+    let Server {
+        node,
+        shelf,
+        links,
+        tally,
+    } = server;
+    let machine = &node.durable.machine;
+    let own = machine.node.own();
+    if asks_of(question) != own {
+        return Ok(());
+    }
+    let said = said_to(alloc, machine, links, tally, shelf, asking, question);
+    put(output, tally, own, asking, &said)?;
+    Ok(())
+}
+
+// What takes an element out, as the remove that it is.
+fn take_out<W: Write, E: Listener, D: Disk, B: Replicated>(
+    alloc: Global,
+    server: &mut Server<D, B>,
+    asking: Asking<'_>,
+    take: Take,
+    output: &mut W,
+    errors: &mut E,
+) -> Result<(), NodeFault>
+    requires takes { TakesLines server.old }
+    requires asked { IsAsking asking.entry }
+    ensures ok { OnOk result (TakesLine (OfTake asking.entry.line.now take asking.entry.number) (TellsAll E.contents E.refuses errors.old errors.new) (io_of (W.contents output.old) server.old) (io_of (W.contents output.new) server.new)) }
+    ensures err { IfErr result (Breaks (OfTake asking.entry.line.now take asking.entry.number) (TellsAll E.contents E.refuses errors.old errors.new) (io_of (W.contents output.old) server.old) (io_of (W.contents output.new) server.new)) }
+    ensures stages { OnlyStages server.old server.new }
+{
+    let Server {
+        node, shelf, tally, ..
+    } = &mut *server;
+    let machine = &node.durable.machine;
+    match taken_tags(alloc, machine, shelf, take) {
+        Ok(tags) => {
+            // a hint to the prover: they are no more than a remove may name
+            let _few = tags.len();
+            let Ok(line) = remove_line(alloc, take, tags) else {
+                return starve(server, asking, output);
+            };
+            let update = take.number;
+            heard(alloc, server, Asking { update, ..asking }, &line, output, errors)
+        }
+        Err(why) => {
+            put(output, tally, machine.node.own(), asking, &Said::Refused(why))?;
+            Ok(())
+        }
+    }
+}
+
+// The remove that a take is.
+fn remove_line(alloc: Global, take: Take, tags: Tags) -> Result<Vec<u8>, AllocError>
+    ensures { IfOk result (λ line. line.items ≡ call_line_text (Submit take.replica take.object (op.Remove tags))) }
+{
+    let call = Call::Submit {
+        replica: take.replica,
+        object: take.object,
+        op: Op::Remove(tags),
+    };
+    write(alloc, &call)
+}
+
+// A line without its name and without what it waits for.
+fn respond<W: Write, E: Listener, D: Disk, B: Replicated>(
+    alloc: Global,
+    server: &mut Server<D, B>,
+    asking: Asking<'_>,
+    line: &[u8],
+    output: &mut W,
+    errors: &mut E,
+) -> Result<(), NodeFault>
+    requires takes { TakesLines server.old }
+    requires asked { IsAsking asking.entry }
+    requires bare { line.now ≡ bare asking.entry.line.now }
+    requires plain { asking.entry.update ≡ None }
+    ensures ok { OnOk result (TakesLine (OfRequest asking.entry.line.now asking.entry.number) (TellsAll E.contents E.refuses errors.old errors.new) (io_of (W.contents output.old) server.old) (io_of (W.contents output.new) server.new)) }
+    ensures err { IfErr result (Breaks (OfRequest asking.entry.line.now asking.entry.number) (TellsAll E.contents E.refuses errors.old errors.new) (io_of (W.contents output.old) server.old) (io_of (W.contents output.new) server.new)) }
+    ensures stages { OnlyStages server.old server.new }
+{
+    match request_of(alloc, line) {
+        Ok(Request::Question(asked)) => question(alloc, server, asking, asked, output),
+        Ok(Request::Take(take)) => take_out(alloc, server, asking, take, output, errors),
+        Ok(Request::Numbered(NumberedCall { number, plain })) => {
+            let update = Some(number);
+            heard(alloc, server, Asking { update, ..asking }, &plain, output, errors)
+        }
+        Ok(Request::Plain) => heard(alloc, server, asking, line, output, errors),
+        Err(_) => starve(server, asking, output),
+    }
+}
+
 /// Takes line `number` of an input, which has no more bytes than [`la_io::limit_of`] says, without its end. Where it is
-/// kept it is staged, without the name of its request and a submission's number: what is written of it may go out only
-/// once that is committed.
+/// kept it is staged, as what it calls for alone: what is written of it may go out only once that is committed.
 ///
 /// `WriteFault` comes where a write fails, and `Memory` where the lines find no room: then a front of
 /// them is written, and the call is staged.
@@ -336,26 +438,21 @@ pub fn answer<W: Write, E: Listener, D: Disk, B: Replicated>(
         return Ok(());
     }
     let request = request_in(line);
-    let name = request.name;
-    match read_called(alloc, request.call) {
-        Ok((input, update)) => {
-            // a hint to the prover: what the input says
-            let _call = input.call();
-            let asking = Asking {
-                number,
-                line,
-                name,
-                update,
-            };
-            call(alloc, server, asking, &input, output)
+    let mut asking = Asking {
+        number,
+        line,
+        name: request.name,
+        update: None,
+        after: None,
+    };
+    match unawaited(alloc, request.call) {
+        Ok((bare, after)) => {
+            asking.after = after;
+            respond(alloc, server, asking, bare, output, errors)
         }
-        Err(LineError::Fault(fault)) => {
-            tell_fault(errors, number, fault, name);
-            Ok(())
-        }
-        Err(LineError::Memory) => {
+        Err(_) => {
             let own = server.node.durable.machine.node.own();
-            refuse(output, own, number, "Memory", name)?;
+            refuse(output, own, number, "Memory", asking.name)?;
             Ok(())
         }
     }

@@ -37,6 +37,7 @@ pub fn processes_stay_together()
     la_world::live::new_replicas_are_together();
     la_world::live::replicas_stay_together();
     la_wire::laws::letters_are_read_back_or_not();
+    la_wire::laws::numbers_are_read_apart();
     la_durable::laws::restarts_take_calls();
 }
 

@@ -8,6 +8,7 @@
 mod answering;
 mod asking;
 mod compacting;
+mod counting;
 mod ended;
 mod error;
 mod keeping;
@@ -18,11 +19,14 @@ mod numbered;
 mod objects;
 mod options;
 mod output;
+mod questions;
 mod said;
+mod saying;
 mod server;
 mod serving;
 mod shelf;
 mod starting;
+mod taking;
 mod texts;
 
 pub use ended::Ended;

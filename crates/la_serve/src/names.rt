@@ -91,7 +91,7 @@ pub fn option_name(option: NodeOption) -> &'static str
 /// Why a folder can't be opened.
 pub fn cause_name(kind: ErrorKind) -> &'static str
     ensures text { result.now ≡ cause_name kind }
-    ensures short { length result.now ≤ 17 }
+    ensures short { length result.now ≤ 22 }
 {
     match kind {
         ErrorKind::NotFound => "not found",
@@ -103,6 +103,7 @@ pub fn cause_name(kind: ErrorKind) -> &'static str
         ErrorKind::StorageFull | ErrorKind::QuotaExceeded => "no space",
         ErrorKind::InvalidInput | ErrorKind::InvalidFilename => "bad path",
         ErrorKind::Unsupported => "unsupported",
+        ErrorKind::ResourceBusy => "another process has it",
         _ => "other error",
     }
 }

@@ -4,6 +4,7 @@ use la_durable::NodeMachine;
 use la_journal::{Disk, Durable, Staged};
 use la_node::Links;
 use la_object::{Replicated, Shelf};
+use la_wire::Tally;
 
 /// A node with its journal, a shelf of objects that answer by its view, and how far other replicas are, as far
 /// as is known. What the shelf has absorbed, and what is known of others, is not kept.
@@ -12,6 +13,8 @@ pub struct Server<D: Disk, B: Replicated> {
     pub node: Staged<NodeMachine, D>,
     pub shelf: Shelf<B>,
     pub links: Links,
+    /// What this process counted.
+    pub tally: Tally,
 }
 
 impl<D: Disk, B: Replicated> Server<D, B> {

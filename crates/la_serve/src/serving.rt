@@ -9,6 +9,7 @@ ghost use Rattle.la_serve.specs.Serving.{StepsOn, StopsOn, of_step};
 ghost use Rattle.la_serve.specs.Crashes.{CommitsSome, Flushes, FlushesOrNot, FlushesNot, ServesLines, Ceases};
 
 use crate::answering::answer;
+use crate::counting::count_sync;
 use crate::{NodeFault, Output, Server};
 use la_durable::NodeMachine;
 use la_io::{Listener, Next, Source};
@@ -75,8 +76,12 @@ fn flush<W: Write + Drop, D: Disk, B: Replicated>(
     ensures later { D.faults server.old.node.durable.disk ≤ D.faults server.new.node.durable.disk }
     ensures failed { IfErr result (λ why. IfDisk why (D.faults server.old.node.durable.disk < D.faults server.new.node.durable.disk)) }
 {
+    let bytes = server.node.text.len();
     match server.node.commit() {
         Ok(()) => {
+            if bytes > 0 {
+                count_sync(&mut server.tally, bytes);
+            }
             output.give(&server.node.durable.disk, held)?;
             held.clear();
             Ok(())

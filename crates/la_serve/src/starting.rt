@@ -20,6 +20,7 @@ use la_journal::{Disk, Durable, Machine, Staged, Unplayed, recover};
 use la_node::{Links, WorldError};
 use la_object::{Counter, Kind, MaxRegister, Replicated, Shelf};
 use la_orset::OrSet;
+use la_wire::Tally;
 use std::alloc::{AllocError, Global};
 use std::io::{ErrorKind, Read, Write};
 
@@ -122,8 +123,8 @@ fn no_journal_line(alloc: Global, folder: &str, kind: ErrorKind) -> Result<Vec<u
 }
 
 /// The exit status where a node's folder can't be opened, for an error of this kind, which is told behind `NoJournal` and
-/// the folder; without the folder, where there is no memory for the line. Of a folder that another process has,
-/// [`end_with`] tells.
+/// the folder; without the folder, where there is no memory for the line. `ResourceBusy` is told of a folder that another
+/// process has.
 pub fn end_without_journal<E: Listener>(
     alloc: Global,
     folder: &str,
@@ -259,6 +260,7 @@ fn start<R: Read, W: Write + Drop, E: Listener, D: Disk, B: Replicated>(
                 node: Staged::new(alloc, durable),
                 shelf,
                 links: Links::new(),
+                tally: Tally::none(),
             };
             let served = serve(alloc, &mut server, input, out, errors);
             (served, server.into_disk())

@@ -5,18 +5,23 @@ ghost use Rattle.la_wire.specs.Calls.{called};
 ghost use Rattle.la_node.specs.Steps.{given_of};
 ghost use Rattle.la_node.specs.Links.{letter_of, letters_of, is_owed};
 ghost use Rattle.la_wire.specs.Notes.{submitted_note, answered_note, message_line, letters_text, known_line};
+ghost use Rattle.la_wire.specs.Notes.{proposed_note, waiting_note, tags_note, updates_note};
+ghost use Rattle.la_wire.specs.Status.{status_note};
+ghost use Rattle.la_serve.specs.Said.{outcome_text};
 ghost use Rattle.la_durable.specs.Nodes.{kept_by};
 ghost use Rattle.la_serve.specs.Turns.{taken_text, learnt_line, growth_text, return_text};
 ghost use Rattle.la_serve.specs.Turns.{receipt_text, call_text};
 
+use la_commit::Outcome;
 use la_durable::NodeMachine;
 use la_node::{Links, Node, Received, Standing};
 use la_object::{Answer, Counter};
 use la_replica::{Mail, Message};
-use la_set::UpdateSet;
+use la_set::{Counts, Tags, UpdateId, UpdateSet};
 use la_wire::{
-    Call, Letter, put_answered, put_known_line, put_learnt, put_letter_line, put_outcome,
-    put_proposed, put_submitted, put_view,
+    Call, Letter, NodeStatus, put_answered, put_known_line, put_learnt, put_letter_line,
+    put_outcome, put_proposed, put_status, put_submitted, put_tags_answer, put_updates_answer,
+    put_view, put_waiting,
 };
 use std::alloc::{AllocError, Global};
 
@@ -189,6 +194,82 @@ pub fn submitted_text(
 {
     let mut out = Vec::with_capacity(alloc, LINE)?;
     put_submitted(&mut out, own, number, name)?;
+    Ok(out)
+}
+
+/// What is written for a proposal that was made before, to a request of this name.
+pub fn proposed_text(
+    alloc: Global,
+    own: u8,
+    commit: u8,
+    outcome: Option<Outcome>,
+    name: &str,
+) -> Result<Vec<u8>, AllocError>
+    ensures { IfOk result (λ text. text.items ≡ proposed_note own commit name.now ++ outcome_text own commit outcome) }
+{
+    let mut out = Vec::with_capacity(alloc, LINE)?;
+    put_proposed(&mut out, own, commit, name)?;
+    if let Some(outcome) = outcome {
+        put_outcome(&mut out, own, commit, outcome)?;
+    }
+    Ok(out)
+}
+
+/// What is written for a question that waits for an update, a request of this name.
+pub fn waiting_text(
+    alloc: Global,
+    own: u8,
+    after: UpdateId,
+    name: &str,
+) -> Result<Vec<u8>, AllocError>
+    ensures { IfOk result (λ text. text.items ≡ waiting_note own after name.now) }
+{
+    let mut out = Vec::with_capacity(alloc, LINE)?;
+    put_waiting(&mut out, own, after, name)?;
+    Ok(out)
+}
+
+/// What is written of an element's live tags, to a request of this name.
+pub fn tags_text(
+    alloc: Global,
+    own: u8,
+    object: u16,
+    tags: &Tags,
+    name: &str,
+) -> Result<Vec<u8>, AllocError>
+    ensures { IfOk result (λ text. text.items ≡ tags_note own object tags.now name.now) }
+{
+    let mut out = Vec::new(alloc);
+    put_tags_answer(&mut out, own, object, tags, name)?;
+    Ok(out)
+}
+
+/// What is written of an object's updates, to a request of this name.
+pub fn updates_text(
+    alloc: Global,
+    own: u8,
+    object: u16,
+    counts: Counts,
+    name: &str,
+) -> Result<Vec<u8>, AllocError>
+    ensures { IfOk result (λ text. text.items ≡ updates_note own object counts name.now) }
+{
+    let mut out = Vec::with_capacity(alloc, LINE)?;
+    put_updates_answer(&mut out, own, object, counts, name)?;
+    Ok(out)
+}
+
+/// What is written of how a node stands, to a request of this name.
+pub fn status_text(
+    alloc: Global,
+    status: &NodeStatus,
+    version: &str,
+    name: &str,
+) -> Result<Vec<u8>, AllocError>
+    ensures { IfOk result (λ text. text.items ≡ status_note status.now version.now name.now) }
+{
+    let mut out = Vec::new(alloc);
+    put_status(&mut out, status, version, name)?;
     Ok(out)
 }
 

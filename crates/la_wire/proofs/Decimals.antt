@@ -26,7 +26,7 @@ canonical : (w : List ℕ) → AreDigits w → 48 < get_or w 0 0 → is_canonica
 canonical [] d h = absurd (omega arith)
 canonical (x ∷ xs) d h = rw (ne_eqb x 48 (omega arith)) d
 
-decimal-canonical : (n : ℕ) → n < 2 ^ 64 → is_canonical (decimal n) ≡ true
+pub decimal-canonical : (n : ℕ) → n < 2 ^ 64 → is_canonical (decimal n) ≡ true
 decimal-canonical zero h = rw (decimal_digit 0 (omega arith)) refl
 decimal-canonical (suc k) h =
     canonical (decimal (suc k)) (decimal-digits (suc k) h) (first_decimal (suc k) (omega arith) h)

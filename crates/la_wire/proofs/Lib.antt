@@ -17,4 +17,10 @@ pub mod RequestLines
 pub mod StateSets
 pub mod EqualStates
 pub mod StateTexts
+pub mod FirstWords
 pub mod NumberedLines
+pub mod QuestionWords
+pub mod QuestionsBack
+pub mod QuestionGates
+pub mod QuestionLines
+pub mod NoteParts

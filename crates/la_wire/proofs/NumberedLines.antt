@@ -1,18 +1,18 @@
 -- Submissions under numbers, read apart.
-use Rattle.std.proofs.Common.{◌≡◌, ℕ, ◌+◌, ◌<◌, ◌≤◌, ◌==◌, ◌&&◌, Bool, true, false, cond, eqb, List, [], ◌∷◌, ◌++◌}
-use Rattle.std.proofs.Common.{length, take_all, drop_of_length-le, All, Option, Some, None, option_map, Ok, refl, sym}
+use Rattle.std.proofs.Common.{◌≡◌, ℕ, ◌+◌, ◌<◌, ◌==◌, Bool, true, false, cond, eqb, List, [], ◌∷◌, ◌++◌}
+use Rattle.std.proofs.Common.{length, All, Option, Some, None, option_map, refl, sym}
 use Rattle.std.proofs.Common.{ap, subst}
 use Rattle.std.proofs.Common.{◌∙◌, arith, inl, inr}
 use Rattle.std.specs.Char.{is_ascii_digit}
 use Rattle.std.specs.Fmt.{decimal}
-use Rattle.std.specs.List.{list_all, find, slice_split, position_or_len, before_first, after_first}
+use Rattle.std.specs.List.{list_all, slice_split, position_or_len, before_first}
 use Rattle.std.specs.Option.{option_and_then}
 use Rattle.std.specs.Str.{bytes_eq}
-use Rattle.std.proofs.lemmas.Bool.{and_parts, cases_lt, cases_Bool, eqb-true, false≢true, false_from_ne_true}
+use Rattle.std.proofs.lemmas.Bool.{cases_lt, cases_Bool, eqb-true, false≢true}
 use Rattle.std.proofs.lemmas.Bool.Decides.{nat_tests}
 use Rattle.std.proofs.lemmas.List.Elements.{All-weaker, All-cons, All-nil}
-use Rattle.std.proofs.lemmas.List.Splits.{slice_split_first, slice_split_none}
-use Rattle.std.proofs.lemmas.List.Sums.{AllPass-from_list_all, fails_before_first, position_or_len_is}
+use Rattle.std.proofs.lemmas.List.Splits.{slice_split_first}
+use Rattle.std.proofs.lemmas.List.Sums.{AllPass-from_list_all, position_or_len_is}
 use Rattle.std.proofs.lemmas.Option.{none-some, same_Some}
 use Rattle.std.proofs.lemmas.Slice.Eq.{bytes_eq-Decides}
 use Rattle.la_set.specs.declared.update.Op.{Op}
@@ -24,42 +24,27 @@ use Rattle.la_script.specs.declared.forms.Form.TheVariants as form
 use Rattle.la_script.specs.declared.forms.Keyword.TheVariants as keyword
 use Rattle.la_script.specs.declared.script.Version.TheVariants.{Two}
 use Rattle.la_script.specs.declared.values.Values.{Values}
-use Rattle.la_script.specs.Forms.{spelling, form_places, fits, forms, has_form, has_gap, form_of}
-use Rattle.la_script.specs.Lines.{words_of, or_fault, event_in, line_event}
+use Rattle.la_script.specs.Forms.{spelling, form_places, fits, form_of}
+use Rattle.la_script.specs.Lines.{words_of, or_fault, event_in}
 use Rattle.la_script.specs.Numbers.{u8_max, is_canonical, number}
 use Rattle.la_script.specs.Tags.{tag_of_replica, tag_in, tag_of}
 use Rattle.la_script.specs.Text.{id_text}
 use Rattle.la_script.specs.Values.{no_values, values, event}
 use Rattle.la_wire.specs.Joined.{joined_by}
 use Rattle.la_wire.specs.Updates.{op_words}
-use Rattle.la_wire.specs.MessageLines.{kind_word, known_word}
-use Rattle.la_wire.specs.Calls.{WireCall, Submit, Tick}
-use Rattle.la_wire.specs.CallLines.{call_line_text, tick_word, event_call, script_call, known_call, first_kind, call_by}
-use Rattle.la_wire.specs.CallLines.{call_of, said_ok, named_call}
+use Rattle.la_wire.specs.Calls.{WireCall, Submit}
+use Rattle.la_wire.specs.CallLines.{call_line_text, event_call, script_call}
+use Rattle.la_wire.specs.CallLines.{said_ok, named_call}
 use Rattle.la_wire.specs.Writable.{IsId}
 use Rattle.la_wire.specs.Requests.{NumberedLine, front_word, behind_word, submission_line, numbered_by, numbered_in}
 use Rattle.la_wire.specs.Requests.{numbered_submission, IsSubmission}
 use Rattle.la_wire.proofs.Decimals.{decimal-no_stop}
+use Rattle.la_wire.proofs.FirstWords.{nothing_behind, first_part, form_fits, said_of, said_by_words}
 use Rattle.la_wire.proofs.Ids.{id-text, id-plain, id-back}
 use Rattle.la_wire.proofs.Joins.{plain-no_space, before-first, after-first}
 use Rattle.la_wire.proofs.Typed.{typed-id}
 
 -- ## Words of a line
-
-module _ (p : ℕ → Bool) (xs : List ℕ) where
-  nothing_behind : length xs ≤ position_or_len p xs → after_first p xs ≡ []
-  nothing_behind past = drop_of_length-le xs {i = position_or_len p xs + 1} (omega (arith, past))
-
-  -- the first of its parts is what stands before the first byte that parts them
-  first_part : (more : List (List ℕ)) × (slice_split p xs ≡ before_first p xs ∷ more)
-  first_part = elim (cases_lt (position_or_len p xs) (length xs)) [
-    | inl less ↦ (slice_split p (after_first p xs), slice_split_first p xs 0 less)
-    | inr past ↦ (
-      [],
-      slice_split_none p xs (λ k d lt. fails_before_first p xs k d (omega (arith, lt, past)))
-          ∙ ap (λ (ys : List ℕ). ys ∷ []) (sym (take_all (position_or_len p xs) xs past)),
-    )
-  ]
 
 -- a line that has a space has two words at least
 two_words : (line : List ℕ) → position_or_len (λ b. b == 32) line < length line
@@ -97,7 +82,7 @@ none_then : (o : Option ℕ) → option_and_then (tag_of_replica []) o ≡ None
 none_then None = refl
 none_then (Some r) = refl
 
-canonical_no_id : (w : List ℕ) → is_canonical w ≡ true → tag_of w ≡ None
+pub canonical_no_id : (w : List ℕ) → is_canonical w ≡ true → tag_of w ≡ None
 canonical_no_id w is =
     let all = no_stop w is in
     let past : position_or_len (λ b. b == 46) w ≡ length w =
@@ -113,24 +98,6 @@ id_no_number w id is = elim (cases_Bool (is_canonical w)) [
 ]
 
 -- ## Forms that begin with `submit`
-
-found : (p : Form → Bool) (fs : List Form) (f : Form) → find p fs ≡ Some f → p f ≡ true
-found p [] f e = absurd (none-some f e)
-found p (g ∷ fs) f e = elim (cases_Bool (p g)) [
-  | inl is ↦
-      ap p (same_Some f g (sym e ∙ ap (λ b. cond b (Some g) (find p fs)) is)) ∙ is
-  | inr not ↦ found p fs f (sym (ap (λ b. cond b (Some g) (find p fs)) not) ∙ e)
-]
-
-no_gap : (b : Bool) (o : Option Form) (f : Form) → cond b None o ≡ Some f → o ≡ Some f
-no_gap true o f e = absurd (none-some f e)
-no_gap false o f e = e
-
-form_fits : (words : List (List ℕ)) (f : Form) → form_of Two words ≡ Some f → fits (form_places f) words ≡ true
-form_fits words f e =
-    (and_parts (has_form Two f) (fits (form_places f) words)
-    (found (λ g. has_form Two g && fits (form_places g) words) forms f
-    (no_gap (has_gap words) (find (λ g. has_form Two g && fits (form_places g) words) forms) f e))).1
 
 -- what is read of words behind `submit` is a submission
 is_submission : (words : List (List ℕ)) (f : Form) → fits (form_places f) (spelling keyword.Submit ∷ words) ≡ true
@@ -197,28 +164,10 @@ module _ (word : List ℕ) (more : List (List ℕ)) (none : number 0 u8_max word
 
 -- ## A line that begins with `submit`
 
--- what words say
-abbrev said_of : List (List ℕ) → Option WireCall
-said_of words = said_ok (script_call (event_in words (form_of Two words)))
-
 module _ (line : List ℕ) (front : front_word line ≡ spelling keyword.Submit) where
-  no_tick : bytes_eq line tick_word ≡ false
-  no_tick =
-      false_from_ne_true (bytes_eq line tick_word)
-      (λ is. false≢true ((bytes_eq-Decides (spelling keyword.Submit) tick_word).1
-      (sym front ∙ ap front_word ((bytes_eq-Decides line tick_word).0 is))))
-
-  said_by_script : named_call line ≡ said_ok (script_call (line_event Two line))
-  unfolding call_of
-  said_by_script =
-      ap (λ b. said_ok (cond b (Ok Tick) (call_by (first_kind line) line))) no_tick
-      ∙ ap (λ w. said_ok (call_by (kind_word w) line)) front
-      ∙ ap (λ w. said_ok (cond (bytes_eq w known_word) (known_call line) (script_call (line_event Two line)))) front
-
-  said_by_words : (words : List (List ℕ)) → words_of line ≡ spelling keyword.Submit ∷ words
+  by_words : (words : List (List ℕ)) → words_of line ≡ spelling keyword.Submit ∷ words
       → named_call line ≡ said_of (spelling keyword.Submit ∷ words)
-  said_by_words words is =
-      said_by_script ∙ ap (λ ws. said_ok (script_call (event_in ws (form_of Two ws)))) is
+  by_words words is = said_by_words line (spelling keyword.Submit) front refl refl refl words is
 
   -- with an id behind that it says nothing
   id_says_nothing : (id : UpdateId) → tag_of (front_word (behind_word line)) ≡ Some id → named_call line ≡ None
@@ -226,7 +175,7 @@ module _ (line : List ℕ) (front : front_word line ≡ spelling keyword.Submit)
     | inl less ↦
         let two = two_words line less in
         let word = front_word (behind_word line) in
-        said_by_words (word ∷ two.0) (two.1 ∙ ap (λ w. w ∷ word ∷ two.0) front)
+        by_words (word ∷ two.0) (two.1 ∙ ap (λ w. w ∷ word ∷ two.0) front)
         ∙ none_by_form word two.0 (id_no_number word id is) (form_of Two (spelling keyword.Submit ∷ word ∷ two.0)) refl
     | inr past ↦
         absurd (none-some id (sym (ap (λ b. tag_of (front_word b)) (nothing_behind (λ b. b == 32) line past)) ∙ is))
@@ -269,7 +218,13 @@ plain_says : (word rest : List ℕ) (c : WireCall) → named_call (submission_li
 plain_says word rest c says =
     let words : List (List ℕ) = slice_split (λ b. b == 32) (word ++ 32 ∷ rest) in
     by_form words c (form_of Two (spelling keyword.Submit ∷ words)) refl
-    (sym (said_by_words (submission_line word rest) refl words refl) ∙ says)
+    (sym (by_words (submission_line word rest) refl words refl) ∙ says)
+
+-- so is what is written of a submission
+pub written_submits : (replica object : ℕ) (does : Op) (c : WireCall)
+    → named_call (call_line_text (Submit replica object does)) ≡ Some c → IsSubmission c
+written_submits replica object does c says =
+    plain_says (decimal replica) (joined_by 32 (decimal object ∷ op_words does)) c says
 
 made_plain : (word rest : List ℕ) (o : Option UpdateId) (n : NumberedLine) (c : WireCall)
     → option_map (λ (id : UpdateId). record { number = id.number; plain = submission_line word rest }) o ≡ Some n

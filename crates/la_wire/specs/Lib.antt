@@ -6,8 +6,10 @@ pub mod MessageLines
 pub mod Calls
 pub mod CallLines
 pub mod Requests
+pub mod Questions
 pub mod Writable
 pub mod Tests
 pub mod Notes
+pub mod Status
 pub mod States
 pub mod SameStates

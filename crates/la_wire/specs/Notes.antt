@@ -1,8 +1,9 @@
 -- Lines that a node writes: letters, and notes, which begin with `#`. Each ends with LF.
-use Rattle.std.specs.Prelude.{ℕ, List, [], ◌∷◌, ◌++◌, codes}
+use Rattle.std.specs.Prelude.{ℕ, List, [], ◌∷◌, ◌++◌, map, codes}
 use Rattle.std.specs.List.{flat_map}
 use Rattle.std.specs.Fmt.{decimal}
 use Rattle.la_set.specs.declared.counts.Counts.{Counts}
+use Rattle.la_set.specs.declared.update.UpdateId.{UpdateId}
 use Rattle.la_commit.specs.declared.outcome.Outcome.{Outcome}
 use Rattle.la_commit.specs.declared.outcome.Outcome.TheVariants.{Commit, Adopt}
 use Rattle.la_commit.specs.Outcomes.{value_of}
@@ -16,12 +17,16 @@ use Rattle.la_wire.specs.Joined.{spaced}
 use Rattle.la_wire.specs.Messages.{letter_message}
 use Rattle.la_wire.specs.MessageLines.{count_words, message_text, standing_text}
 use Rattle.la_wire.specs.Requests.{name_words}
+use Rattle.la_wire.specs.Questions.{tags_word, updates_word}
 
 -- ## Notes
 
--- what a replica notes, word by word
+-- what a replica notes, word by word, without the line's end
+abbrev pub begun_note : (own : ℕ) → List (List ℕ) → List ℕ
+begun_note own words = codes "# r" ++ decimal own ++ spaced 32 words
+
 abbrev pub note : (own : ℕ) → List (List ℕ) → List ℕ
-note own words = codes "# r" ++ decimal own ++ spaced 32 words ++ 10 ∷ []
+note own words = begun_note own words ++ 10 ∷ []
 
 -- what answers a request, with its name behind it
 abbrev pub answering_note : (own : ℕ) → (name : List ℕ) → List (List ℕ) → List ℕ
@@ -57,6 +62,20 @@ outcome_note own commit o = note own (codes "outcome" ∷ decimal commit ∷ out
 abbrev pub answered_note : (own object : ℕ) → Answer → (name : List ℕ) → List ℕ
 answered_note own object answer name =
     answering_note own name (codes "answered" ∷ decimal object ∷ answer_text answer ∷ [])
+
+-- an object has an element by these updates, each of which put it
+abbrev pub tags_note : (own object : ℕ) → (tags : List UpdateId) → (name : List ℕ) → List ℕ
+tags_note own object tags name =
+    answering_note own name (codes "answered" ∷ decimal object ∷ tags_word ∷ map id_text tags)
+
+-- the view has so many updates of an object, of each replica
+abbrev pub updates_note : (own object : ℕ) → Counts → (name : List ℕ) → List ℕ
+updates_note own object counts name =
+    answering_note own name (codes "answered" ∷ decimal object ∷ updates_word ∷ count_words counts)
+
+-- what was asked waits for an update
+abbrev pub waiting_note : (own : ℕ) → (after : UpdateId) → (name : List ℕ) → List ℕ
+waiting_note own after name = answering_note own name (codes "waiting" ∷ id_text after ∷ [])
 
 -- the line with this number, from 1, was refused for this
 abbrev pub refused_note : (own number : ℕ) → (why name : List ℕ) → List ℕ

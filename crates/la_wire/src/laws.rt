@@ -1,10 +1,13 @@
 // What the definitions mean: laws over every call, which no code runs.
 ghost use Rattle.std.specs.Prelude.{◌≡◌, ◌≤◌, ◌+◌, ◌*◌, ◌↔◌, ◌∷◌, ◌++◌, ℕ, List, true, false, length, All, Some, None};
-ghost use Rattle.std.specs.Prelude.{Ok, IsTrue};
+ghost use Rattle.std.specs.Prelude.{Ok, IsTrue, codes};
 ghost use Rattle.la_set.specs.declared.update.Op.{Op};
 ghost use Rattle.la_set.specs.declared.update.UpdateId.{UpdateId};
 ghost use Rattle.la_replica.specs.Parcels.{AreAlikeParcels};
 ghost use Rattle.la_node.specs.declared.link.Letter.{Letter};
+ghost use Rattle.la_script.specs.declared.forms.Keyword.TheVariants as keyword;
+ghost use Rattle.la_script.specs.Forms.{spelling};
+ghost use Rattle.la_script.specs.Text.{id_text};
 ghost use Rattle.la_io.specs.Limits.{is_too_long};
 ghost use Rattle.la_wire.specs.Messages.{WireMessage, letter_message};
 ghost use Rattle.la_wire.specs.MessageLines.{carried, message_text};
@@ -13,7 +16,10 @@ ghost use Rattle.la_wire.specs.CallLines.{call_line_text, named_call, bounded_ca
 ghost use Rattle.la_wire.specs.Writable.{IsId, IsCall, IsMessage, IsTypedMessage, IsTagless};
 ghost use Rattle.la_wire.specs.Tests.{is_call};
 ghost use Rattle.la_wire.specs.Requests.{has_no_at, is_name, is_of_peer, asked_in, nameless};
-ghost use Rattle.la_wire.specs.Requests.{NumberedLine, numbered_in, numbered_submission, IsSubmission};
+ghost use Rattle.la_wire.specs.Requests.{NumberedLine, numbered_in, numbered_submission, IsSubmission, front_word};
+ghost use Rattle.la_wire.specs.declared.questions.Question.{Question};
+ghost use Rattle.la_wire.specs.declared.questions.Take.{Take};
+ghost use Rattle.la_wire.specs.Questions.{question_in, take_in, awaited_in, question_text, take_text, IsQuestion, IsTake};
 
 /// What is written of a call names that call.
 pub fn calls_are_read_back()
@@ -55,7 +61,8 @@ pub fn requests_are_read_apart()
 {}
 
 /// A submission that was written under a number is read as that number and the plain line of its call. A line that says
-/// a call has no number, so that none is taken for another; and what is called for under a number is a submission.
+/// a call has no number, so that none is taken for another; and what is called for under a number is a submission, as is
+/// what is written of one.
 pub fn numbers_are_read_apart()
     ensures numbered { (id : UpdateId) (object : ℕ) (op : Op) → IsId id
         → numbered_in (numbered_submission id object op)
@@ -63,6 +70,20 @@ pub fn numbers_are_read_apart()
     ensures plain { (line : List ℕ) (c : WireCall) → named_call line ≡ Some c → numbered_in line ≡ None }
     ensures submits { (line : List ℕ) (n : NumberedLine) (c : WireCall) → numbered_in line ≡ Some n
         → named_call n.plain ≡ Some c → IsSubmission c }
+    ensures written { (replica object : ℕ) (op : Op) (c : WireCall)
+        → named_call (call_line_text (Submit replica object op)) ≡ Some c → IsSubmission c }
+{}
+
+/// A question, and a take, is read as it was written; and a question that waits for an update as that update and the
+/// line of the question. A line that says a call is none of these, so that none is taken for another.
+pub fn questions_are_read_apart()
+    ensures question { (q : Question) → IsQuestion q → question_in (question_text q) ≡ Some q }
+    ensures take { (t : Take) → IsTake t → take_in (take_text t) ≡ Some t }
+    ensures awaited { (line : List ℕ) (id : UpdateId) → front_word line ≡ spelling keyword.Ask → IsId id
+        → awaited_in (line ++ codes " at " ++ id_text id) ≡ Some (record { after = id; plain = line }) }
+    ensures no_question { (line : List ℕ) (c : WireCall) → named_call line ≡ Some c → question_in line ≡ None }
+    ensures no_take { (line : List ℕ) (c : WireCall) → named_call line ≡ Some c → take_in line ≡ None }
+    ensures none_awaited { (line : List ℕ) (c : WireCall) → named_call line ≡ Some c → awaited_in line ≡ None }
 {}
 
 /// Whether a call can be had is a test.

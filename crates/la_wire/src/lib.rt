@@ -31,8 +31,25 @@
 //! ballot that was learnt last, or `none`; then of each reply that has counted its acceptor F and `yes`, or what was
 //! refused. The updates are those of all these sets, and in instance 0 of the view: each C counts from their front.
 //!
+//! Beside the calls of a script a client may write these lines. A name ` @N` may stand behind each, and then stands behind
+//! what answers it.
+//!
+//! | Line | What is answered |
+//! |---|---|
+//! | `ask R O tags X` | `# rR answered O tags P.N ..`: the updates by which object O has element X |
+//! | `ask R O updates` | `# rR answered O updates N N N N N N N N`: how many updates of it the view has, of each replica |
+//! | `ask .. at P.N` | that of the question without `at P.N`, once update P.N is there; until then `# rR waiting P.N` |
+//! | `status R` | `# rR status version V has C view C submitted N waiting N ballot B open ..`, or `shut`, and more |
+//! | `submit R O take X` | as a submission: X is taken out of object O by the updates that put it |
+//! | `submit R.K O take X` | the same, under a number |
+//!
+//! Behind `open` or `shut` stands ` peer P has C view C` for each other replica of the group, as far as is known, and
+//! then what the process counted: ` in offer N yes N no N tell N known N out offer N yes N no N tell N known N refused N
+//! written N syncs N`.
+//!
 //! `specs/Messages.antt` has what letters say, `specs/Updates.antt` and `specs/MessageLines.antt` the lines,
-//! `specs/States.antt` the texts of states.
+//! `specs/Questions.antt` and `specs/Notes.antt` what a client asks and is answered, `specs/Status.antt` how a node
+//! stands, and `specs/States.antt` the texts of states.
 #![tactic(auto)]
 
 mod calls;
@@ -41,8 +58,10 @@ mod error;
 pub mod laws;
 mod messages;
 mod notes;
+mod questions;
 mod requests;
 mod states;
+mod status;
 mod telling;
 mod updates;
 mod words;
@@ -53,9 +72,11 @@ pub use error::{LineError, LineFault};
 pub use la_node::{Letter, Standing};
 pub use notes::{
     put_answered, put_known_line, put_learnt, put_letter_line, put_outcome, put_proposed,
-    put_submitted, put_view,
+    put_submitted, put_tags_answer, put_updates_answer, put_view, put_waiting,
 };
+pub use questions::{Awaited, Question, Take, awaited_in, question_in, take_in};
 pub use requests::{MAX_NAME, NumberedCall, Request, numbered_in, request_in};
 pub use states::{put_state, same_state, state_in};
+pub use status::{Kinds, NodeStatus, Tally, put_status};
 pub use telling::{refuse, tell_fault};
 pub use writing::{put_letter, write};

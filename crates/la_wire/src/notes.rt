@@ -5,22 +5,22 @@ ghost use Rattle.la_wire.specs.Messages.{letter_message};
 ghost use Rattle.la_wire.specs.Writable.{IsTypedMessage};
 ghost use Rattle.la_wire.specs.Notes.{outcome_word, message_line, known_line};
 ghost use Rattle.la_wire.specs.Notes.{submitted_note, proposed_note, learnt_note, view_note};
-ghost use Rattle.la_wire.specs.Notes.{outcome_note, answered_note};
+ghost use Rattle.la_wire.specs.Notes.{outcome_note, answered_note, begun_note, tags_note, updates_note, waiting_note};
 ghost use Rattle.la_wire.specs.Joined.{spaced};
 ghost use Rattle.la_wire.specs.Requests.{name_words};
 
 use crate::writing::{
-    put_counts, put_decimal, put_letter, put_number, put_standing, put_tag, put_word,
+    put_counts, put_decimal, put_letter, put_number, put_standing, put_tag, put_tags, put_word,
 };
 use crate::{Letter, Standing};
 use la_commit::Outcome;
 use la_object::Answer;
 use la_script::{Pieces, put_answer};
-use la_set::{Counts, UpdateId};
+use la_set::{Counts, Tags, UpdateId};
 use std::alloc::{AllocError, Global};
 
-// Begins a note of a replica's with a word.
-fn put_front(out: &mut Vec<u8>, own: u8, word: &[u8]) -> Result<(), AllocError>
+/// Begins a note of a replica's with a word.
+pub(crate) fn put_front(out: &mut Vec<u8>, own: u8, word: &[u8]) -> Result<(), AllocError>
     ensures { OnOk result (out.new.items ≡ out.old.items ++ codes "# r" ++ decimal own ++ 32 ∷ word.now) }
 {
     out.extend_from_slice(b"# r")?;
@@ -28,15 +28,16 @@ fn put_front(out: &mut Vec<u8>, own: u8, word: &[u8]) -> Result<(), AllocError>
     put_word(out, word)
 }
 
-fn put_end(out: &mut Vec<u8>) -> Result<(), AllocError>
+/// Ends a note.
+pub(crate) fn put_end(out: &mut Vec<u8>) -> Result<(), AllocError>
     ensures { OnOk result (out.new.items ≡ out.old.items ++ 10 ∷ []) }
 {
     out.push(b'\n')?;
     Ok(())
 }
 
-// Writes the name of a request behind what answers it, where it has one.
-fn put_name(out: &mut Vec<u8>, name: &str) -> Result<(), AllocError>
+/// Writes the name of a request behind what answers it, where it has one.
+pub(crate) fn put_name(out: &mut Vec<u8>, name: &str) -> Result<(), AllocError>
     ensures { OnOk result (out.new.items ≡ out.old.items ++ spaced 32 (name_words name.now)) }
 {
     if name.is_empty() {
@@ -153,6 +154,65 @@ pub fn put_answered(
     put_number(out, u64::from(object))?;
     out.push(b' ')?;
     put_pieces(out, &pieces)?;
+    put_name(out, name)?;
+    put_end(out)
+}
+
+// Begins an answer of an object with a word.
+fn put_answering(out: &mut Vec<u8>, own: u8, object: u16, word: &[u8]) -> Result<(), AllocError>
+    ensures { OnOk result (out.new.items
+        ≡ out.old.items ++ begun_note own (codes "answered" ∷ decimal object ∷ word.now ∷ [])) }
+{
+    put_front(out, own, b"answered")?;
+    put_number(out, u64::from(object))?;
+    put_word(out, word)
+}
+
+/// Notes by which updates an object still has an element, to a request of this name. After a refusal a part of the note
+/// may stand there.
+pub fn put_tags_answer(
+    out: &mut Vec<u8>,
+    own: u8,
+    object: u16,
+    tags: &Tags,
+    name: &str,
+) -> Result<(), AllocError>
+    ensures { OnOk result (out.new.items ≡ out.old.items ++ tags_note own object tags.now name.now) }
+{
+    put_answering(out, own, object, b"tags")?;
+    put_tags(out, tags)?;
+    put_name(out, name)?;
+    put_end(out)
+}
+
+/// Notes how many updates of an object there are, of each replica, to a request of this name. After a refusal a part of
+/// the note may stand there.
+pub fn put_updates_answer(
+    out: &mut Vec<u8>,
+    own: u8,
+    object: u16,
+    counts: Counts,
+    name: &str,
+) -> Result<(), AllocError>
+    ensures { OnOk result (out.new.items ≡ out.old.items ++ updates_note own object counts name.now) }
+{
+    put_answering(out, own, object, b"updates")?;
+    put_counts(out, counts)?;
+    put_name(out, name)?;
+    put_end(out)
+}
+
+/// Notes that a request of this name waits for an update. After a refusal a part of the note may stand there.
+pub fn put_waiting(
+    out: &mut Vec<u8>,
+    own: u8,
+    after: UpdateId,
+    name: &str,
+) -> Result<(), AllocError>
+    ensures { OnOk result (out.new.items ≡ out.old.items ++ waiting_note own after name.now) }
+{
+    put_front(out, own, b"waiting")?;
+    put_tag(out, after)?;
     put_name(out, name)?;
     put_end(out)
 }

@@ -13,8 +13,8 @@ use std::str;
 /// How many bytes the name of a request may have.
 pub const MAX_NAME: usize = 32;
 
-// The word that a submission begins with.
-const SUBMIT: &[u8] = b"submit";
+/// The word that a submission begins with.
+pub(crate) const SUBMIT: &[u8] = b"submit";
 
 /// A line apart: what it calls for, and the name of the request.
 #[derive(Clone, Copy)]

@@ -65,7 +65,8 @@ pub(crate) fn put_tag(out: &mut Vec<u8>, tag: UpdateId) -> Result<(), AllocError
     put_id(out, tag)
 }
 
-fn put_tags(out: &mut Vec<u8>, tags: &Tags) -> Result<(), AllocError>
+// Writes ids behind other words.
+pub(crate) fn put_tags(out: &mut Vec<u8>, tags: &Tags) -> Result<(), AllocError>
     ensures exact { OnOk result (out.new.items ≡ out.old.items ++ spaced 32 (map id_text tags.now)) }
     ensures typed { OnOk result (IsTags tags.now × All (IsIdFrom 0) tags.now) }
 {
@@ -206,7 +207,8 @@ fn put_header(out: &mut Vec<u8>, letter: &Letter) -> Result<(), AllocError>
     put_number(out, u64::from(parcel.ballot))
 }
 
-fn put_progress(out: &mut Vec<u8>, progress: Progress) -> Result<(), AllocError>
+// Writes how far a replica is behind other words.
+pub(crate) fn put_progress(out: &mut Vec<u8>, progress: Progress) -> Result<(), AllocError>
     ensures exact { OnOk result (out.new.items ≡ out.old.items ++ spaced 32 (progress_words progress)) }
     ensures typed { OnOk result (IsCounts progress.accepted × IsCounts progress.view) }
 {

@@ -13,6 +13,8 @@ mod nodes;
 #[cfg(test)]
 mod programs;
 #[cfg(test)]
+mod questions;
+#[cfg(test)]
 mod scripts;
 #[cfg(test)]
 mod servers;

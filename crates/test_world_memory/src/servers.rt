@@ -16,6 +16,7 @@ use la_orset::OrSet;
 use la_proposer::Votes;
 use la_serve::{NodeFault, Objects, Options, Output, Server, command, end_without_journal, run, serve};
 use la_set::UpdateSet;
+use la_wire::Tally;
 use std::alloc::Global;
 use std::io;
 use std::io::Write;
@@ -34,7 +35,7 @@ struct Row {
     later: &'static str,
 }
 
-const ROWS: [Row; 13] = [
+const ROWS: [Row; 19] = [
     Row {
         journal: "",
         line: "submit 0 3 put 7 @a.1\n",
@@ -122,7 +123,14 @@ const ROWS: [Row; 13] = [
         journal: ROUND,
         line: "submit 0.1 4 put 7\n",
         kept: "",
-        text: "# r0 refused 1 Stale\n",
+        text: "# r0 refused 1 NoSuchObject\n",
+        later: "",
+    },
+    Row {
+        journal: ROUND,
+        line: "submit 0.1 3 inc 7\n",
+        kept: "",
+        text: "# r0 refused 1 Foreign\n",
         later: "",
     },
     Row {
@@ -130,6 +138,43 @@ const ROWS: [Row; 13] = [
         line: "submit 0.3 3 put 7\n",
         kept: "",
         text: "# r0 refused 1 Gap\n",
+        later: "",
+    },
+    // what is taken out by what is seen, and questions that no call says
+    Row {
+        journal: ROUND,
+        line: "submit 0.2 3 take 7 @a.1\n",
+        kept: "submit 0 3 remove 0.1\n",
+        text: "# r0 submitted 0.2 @a.1\noffer 1 0 0 0 2 has 1 view 1 base 1;0.2 3 remove 0.1\n",
+        later: "# r0 submitted 0.2 @a.1\n",
+    },
+    Row {
+        journal: ROUND,
+        line: "ask 0 3 tags 7 at 0.1 @a.1\n",
+        kept: "",
+        text: "# r0 answered 3 tags 0.1 @a.1\n",
+        later: "",
+    },
+    Row {
+        journal: ROUND,
+        line: "ask 0 3 size at 0.2\n",
+        kept: "",
+        text: "# r0 waiting 0.2\n",
+        later: "",
+    },
+    Row {
+        journal: ROUND,
+        line: "ask 0 3 updates\n",
+        kept: "",
+        text: "# r0 answered 3 updates 1 0 0 0 0 0 0 0\n",
+        later: "",
+    },
+    Row {
+        journal: ROUND,
+        line: "status 0\n",
+        kept: "",
+        text: "# r0 status version 0.4.0 has 1 view 1 submitted 1 waiting 0 ballot 0 shut in offer 0 yes 0 no 0 \
+            tell 0 known 0 out offer 0 yes 0 no 0 tell 0 known 0 refused 0 written 0 syncs 0\n",
         later: "",
     },
 ];
@@ -191,6 +236,7 @@ fn server_of<D: Disk>(
         node: Staged::new(alloc, node),
         shelf,
         links: Links::new(),
+        tally: Tally::none(),
     }
 }
 

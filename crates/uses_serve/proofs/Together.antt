@@ -54,11 +54,11 @@ module _ (law : TurnsKeepTogether) (objects : List (ℕ × Kind)) (r : ℕ) wher
       (sym (ap (slice_set nodes r) are ∙ put_same nodes r n at)) (sym (append-nil letters)) (sym (append-nil learnt))
       live
   many (t ∷ turns) n k after are nodes letters learnt live at handed =
-      let one = law nodes letters learnt objects r k n t live at are.0 (handed t.line (0, omega arith, refl)) in
+      let one = law nodes letters learnt objects r k n t live at are.0 (handed t.heard.line (0, omega arith, refl)) in
       let rest = many turns t.after (k + 1) after are.1 (slice_set nodes r t.after) (letters ++ t.sent)
       (learnt ++ t.learnt) one (get_put nodes r n t.after at)
       (λ line has. more_letters letters t.sent r line
-      (handed line (Contains-append_right (t.line ∷ []) (turn_lines turns) line has))) in
+      (handed line (Contains-append_right (t.heard.line ∷ []) (turn_lines turns) line has))) in
       moved (slice_set (slice_set nodes r t.after) r after) (slice_set nodes r after)
       ((letters ++ t.sent) ++ all_sent turns) (letters ++ (t.sent ++ all_sent turns))
       ((learnt ++ t.learnt) ++ all_learnt turns) (learnt ++ (t.learnt ++ all_learnt turns))

@@ -13,7 +13,6 @@ use Rattle.la_replica.specs.ReplicaState.{ReplicaState}
 use Rattle.la_serve.specs.declared.server.Server.{Server}
 use Rattle.la_serve.specs.Io.{server_state}
 use Rattle.la_wire.specs.Notes.{submitted_note}
-use Rattle.la_wire.specs.Requests.{name_in, asked_number}
 use Rattle.la_serve.specs.Numbered.{submission_under}
 use Rattle.la_serve.specs.Once.{AsksUnder}
 use Rattle.la_serve.specs.Turns.{Turn, ServerState}
@@ -75,9 +74,9 @@ pub record IsServedForGood {D B : Type 0} {g : Ghosts D} (seen : D → List ℕ)
 -- where a line was answered as submitted under its number, what it asks stands under that for this node
 abbrev pub StandsIfAnswered : (own : ℕ) → (after : ServerState) → Turn → Type 0
 StandsIfAnswered own after t =
-    (number : ℕ) (more : List ℕ) → asked_number t.line ≡ Some number →
-    t.text ≡ submitted_note own number (name_in t.line) ++ more →
-    (d : ObjectOp) × AsksUnder own t.line number d × (submission_under after.kept number ≡ Some d)
+    (number : ℕ) (more : List ℕ) → t.heard.number ≡ Some number →
+    t.text ≡ submitted_note own number t.heard.name ++ more →
+    (d : ObjectOp) × AsksUnder own t.heard number d × (submission_under after.kept number ≡ Some d)
 
 abbrev pub AnswersStand : (own : ℕ) → (after : ServerState) → List Turn → Type 0
 AnswersStand own after [] = ⊤

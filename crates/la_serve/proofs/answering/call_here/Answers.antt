@@ -3,31 +3,31 @@ use Rattle.std.specs.Io.KnownBytes.{Appends}
 use Rattle.la_io.specs.Streams.{AppendsPrefix}
 use Rattle.la_wire.specs.Calls.{called}
 use Rattle.la_serve.specs.declared.error.NodeFault.TheVariants.{WriteFault}
+use Rattle.la_serve.specs.Asking.{heard_as}
 use Rattle.la_serve.proofs.Taking.{if_err_cut}
-use Rattle.la_wire.specs.Messages.{letter_message}
-use Rattle.la_serve.proofs.Saying.{ask_taken, tick_taken, back_taken, known_taken, instead_taken}
+use Rattle.la_serve.proofs.Saying.{ask_taken, tick_taken, known_taken}
 use Rattle.la_serve.proofs.answering.call_here.Goals as goal
 
 pub returns-in_ok-put-in-Ask-clause-ok : goal.returns-in_ok-put-in-Ask-clause-ok
 returns-in_ok-put-in-Ask-clause-ok g c =
-    ask_taken Appends c.args.asking.number c.args.asking.line.now c.args.input.now _ _ c.said_by_view-said.result refl
-    refl _ c.own.ensures _ c.requires.asked.name
+    ask_taken Appends c.args.asking.number (heard_as c.args.asking c.args.input.now.line) c.args.input.now _ _
+    c.said_to_call-said.result refl refl _ c.own.ensures
     c.in_ok-put-in-Ask.ensures.ok _ _ _ (ap called (sym c.call.ensures.is ∙ c.in-Ask.is))
-    c.said_by_view-said.ensures.said
+    c.said_to_call-said.ensures.said
 
 pub returns-in_err-put-in-Ask-clause-err : goal.returns-in_err-put-in-Ask-clause-err
 returns-in_err-put-in-Ask-clause-err g c =
     let f : IfErr c.from_residual.result (λ e. e ≡ WriteFault) = search rules in
     if_err_cut _ _ _ _ c.from_residual.result f
-    (ask_taken AppendsPrefix c.args.asking.number c.args.asking.line.now c.args.input.now _ _
-    c.said_by_view-said.result refl refl _ c.own.ensures _ c.requires.asked.name
+    (ask_taken AppendsPrefix c.args.asking.number (heard_as c.args.asking c.args.input.now.line) c.args.input.now _ _
+    c.said_to_call-said.result refl refl _ c.own.ensures
     c.in_err-put-in-Ask.ensures.err _ _ _ (ap called (sym c.call.ensures.is ∙ c.in-Ask.is))
-    c.said_by_view-said.ensures.said)
+    c.said_to_call-said.ensures.said)
 
 pub returns-in_ok-put-in-Tick-clause-ok : goal.returns-in_ok-put-in-Tick-clause-ok
 returns-in_ok-put-in-Tick-clause-ok g c =
-    tick_taken Appends c.args.asking.number c.args.asking.line.now c.args.input.now _ _ refl refl _
-    c.own-in-Tick.ensures _ c.requires.asked.name
+    tick_taken Appends c.args.asking.number (heard_as c.args.asking c.args.input.now.line) c.args.input.now _ _ refl
+    refl _ c.own-in-Tick.ensures
     (ap called (sym c.call.ensures.is ∙ c.in-Tick.is)) c.said_again-said.result c.in_ok-put-in-Tick.ensures.ok
     c.said_again-said.ensures
 
@@ -35,44 +35,13 @@ pub returns-in_err-put-in-Tick-clause-err : goal.returns-in_err-put-in-Tick-clau
 returns-in_err-put-in-Tick-clause-err g c =
     let f : IfErr c.from_residual-in_err-put-in-Tick.result (λ e. e ≡ WriteFault) = search rules in
     if_err_cut _ _ _ _ c.from_residual-in_err-put-in-Tick.result f
-    (tick_taken AppendsPrefix c.args.asking.number c.args.asking.line.now c.args.input.now _ _ refl refl _
-    c.own-in-Tick.ensures _ c.requires.asked.name
+    (tick_taken AppendsPrefix c.args.asking.number (heard_as c.args.asking c.args.input.now.line) c.args.input.now _ _
+    refl refl _ c.own-in-Tick.ensures
     (ap called (sym c.call.ensures.is ∙ c.in-Tick.is)) c.said_again-said.result c.in_err-put-in-Tick.ensures.err
     c.said_again-said.ensures)
 
-pub returns-in_ok-put-in-Receive-clause-ok : goal.returns-in_ok-put-in-Receive-clause-ok
-returns-in_ok-put-in-Receive-clause-ok g c =
-    back_taken Appends c.args.asking.number c.args.asking.line.now c.args.input.now _ _ c.said_back-said.result refl
-    refl _ c.own-in-Receive.ensures _ c.requires.asked.name
-    c.in_ok-put-in-Receive.ensures.ok (letter_message c.in-Receive.letter)
-    (ap called (sym c.call.ensures.is ∙ c.in-Receive.is)) (sym c.is_stale.ensures ∙ c.if-is_stale.true)
-    c.said_back-said.ensures
-
-pub returns-in_err-put-in-Receive-clause-err : goal.returns-in_err-put-in-Receive-clause-err
-returns-in_err-put-in-Receive-clause-err g c =
-    let f : IfErr c.from_residual-in_err-put-in-Receive.result (λ e. e ≡ WriteFault) = search rules in
-    if_err_cut _ _ _ _ c.from_residual-in_err-put-in-Receive.result f
-    (back_taken AppendsPrefix c.args.asking.number c.args.asking.line.now c.args.input.now _ _
-    c.said_back-said.result refl refl _ c.own-in-Receive.ensures _ c.requires.asked.name
-    c.in_err-put-in-Receive.ensures.err (letter_message c.in-Receive.letter)
-    (ap called (sym c.call.ensures.is ∙ c.in-Receive.is)) (sym c.is_stale.ensures ∙ c.if-is_stale.true)
-    c.said_back-said.ensures)
-
 pub returns-in-Known-clause-ok : goal.returns-in-Known-clause-ok
 returns-in-Known-clause-ok g c =
-    known_taken c.args.asking.line.now c.args.input.now c.args.asking.number _ c.in-Known.field-0
+    known_taken (heard_as c.args.asking c.args.input.now.line) c.args.input.now c.args.asking.number _
+    c.in-Known.field-0
     (ap called (sym c.call.ensures.is ∙ c.in-Known.is))
-
-pub returns-in_ok-put-in-Some-clause-ok : goal.returns-in_ok-put-in-Some-clause-ok
-returns-in_ok-put-in-Some-clause-ok g c =
-    instead_taken Appends c.args.asking.number c.args.asking.line.now c.args.input.now _ _ c.in-Some.said refl refl _
-    c.own-in-Some.ensures _ c.requires.asked.name c.in_ok-put-in-Some.ensures.ok _ _ _
-    (ap called (sym c.call.ensures.is ∙ c.in-Submit.is)) _ c.requires.asked.update c.in-Some.ensures
-
-pub returns-in_err-put-in-Some-clause-err : goal.returns-in_err-put-in-Some-clause-err
-returns-in_err-put-in-Some-clause-err g c =
-    let f : IfErr c.from_residual-in_err-put-in-Some.result (λ e. e ≡ WriteFault) = search rules in
-    if_err_cut _ _ _ _ c.from_residual-in_err-put-in-Some.result f
-    (instead_taken AppendsPrefix c.args.asking.number c.args.asking.line.now c.args.input.now _ _ c.in-Some.said refl
-    refl _ c.own-in-Some.ensures _ c.requires.asked.name c.in_err-put-in-Some.ensures.err _ _ _
-    (ap called (sym c.call.ensures.is ∙ c.in-Submit.is)) _ c.requires.asked.update c.in-Some.ensures)

@@ -11,4 +11,7 @@ returns c =
       adds = c.replies_submit_nothing.ensures.submission;
       none = c.replies_submit_nothing.ensures.reply;
     })
-    c.numbers_are_read_apart.ensures.submits
+    (record {
+      numbered = c.numbers_are_read_apart.ensures.submits;
+      written = c.numbers_are_read_apart.ensures.written;
+    })

@@ -1,8 +1,8 @@
 use Rattle.std.proofs.Common.{ap, sym, ◌∙◌}
 use Rattle.la_wire.specs.Messages.{said_content}
-use Rattle.la_serve.specs.Turns.{is_told_known}
+use Rattle.la_serve.specs.Said.{is_told_known}
 use Rattle.la_serve.proofs.Saying.{not_known}
-use Rattle.la_serve.proofs.answering.is_known.Goals as goal
+use Rattle.la_serve.proofs.saying.is_known.Goals as goal
 
 pub returns-else-has_counts : goal.returns-else-has_counts
 returns-else-has_counts c =

@@ -1,8 +1,8 @@
 use Rattle.std.proofs.Common.{sym, ap, leb, ◌&&◌, ◌∙◌}
-use Rattle.la_serve.specs.Turns.{is_reached}
+use Rattle.la_serve.specs.Said.{is_reached}
 use Rattle.la_serve.proofs.Saying.{one_more}
-use Rattle.la_serve.proofs.answering.is_within.Goals as goal
-use Rattle.la_serve.proofs.answering.is_within.Goals.{then-within, else-within}
+use Rattle.la_serve.proofs.saying.is_within.Goals as goal
+use Rattle.la_serve.proofs.saying.is_within.Goals.{then-within, else-within}
 
 pub loop-place-preserved : goal.loop-place-preserved
 loop-place-preserved c =

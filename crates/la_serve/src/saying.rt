@@ -1,0 +1,181 @@
+// What is said of a call in place of taking it.
+ghost use Rattle.std.specs.Prelude.{◌≡◌, ℕ, List, true};
+ghost use Rattle.std.specs.List.{list_all};
+ghost use Rattle.la_set.specs.Inclusion.{IsSubset};
+ghost use Rattle.la_object.specs.Shelves.{answer_at};
+ghost use Rattle.la_wire.specs.Calls.{called};
+ghost use Rattle.la_wire.specs.Messages.{said_content, letter_message};
+ghost use Rattle.la_wire.specs.Notes.{waiting_note};
+ghost use Rattle.la_durable.specs.Nodes.{kept_by};
+ghost use Rattle.la_serve.specs.Asking.{heard_as};
+ghost use Rattle.la_serve.specs.Said.{shelf_by, is_stale, is_told_known, is_reached, may_be_taken, still_awaited};
+ghost use Rattle.la_serve.specs.Said.{IsSaidAnswer, IsSaidAfter, IsSaidAgain, IsSaidOfMessage, IsSaidText, IsSaidHere};
+
+use crate::asking::Asking;
+use crate::counting::count_owed;
+use crate::numbered::{said_of_proposal, said_of_submission};
+use crate::said::{Said, Why};
+use crate::texts::{answer_text, mail_text, standing_text, waiting_text};
+use la_durable::{Input, NodeMachine};
+use la_node::{Letter, Links};
+use la_object::{Query, Replicated, Shelf, ShelfError};
+use la_replica::Content;
+use la_set::{Counts, Delta, UpdateId, UpdateSet};
+use la_wire::{Call, Kinds};
+use std::alloc::Global;
+
+// Whether a letter brings no news.
+fn is_stale(machine: &NodeMachine, letter: &Letter) -> bool
+    ensures { result ≡ is_stale (kept_by machine.now) (letter_message letter.now) }
+{
+    letter.parcel.instance == 0 && is_known(machine.node.view(), &letter.parcel.content)
+}
+
+// Whether a set is told that has no more than a view, by its counts.
+fn is_known(view: &UpdateSet, content: &Content) -> bool
+    ensures { result ≡ is_told_known view.now (said_content content.now) }
+{
+    match content {
+        Content::Tell(delta) => view.has_counts(delta.base()) && is_within(view.counts(), delta),
+        Content::Offer(_) | Content::Yes | Content::No(_) => false,
+    }
+}
+
+// Whether no update beyond a delta's base has a number over these counts.
+fn is_within(counts: Counts, delta: &Delta) -> bool
+    ensures { result ≡ list_all (is_reached counts) delta.now.more }
+{
+    let mut within = true;
+    for place in 0..delta.len() {
+        let Some(update) = delta.at(place) else {
+            unreachable!()
+        };
+        within = within && update.id.number <= counts.of(update.id.replica);
+    }
+    within
+}
+
+// What an object on a shelf answers by a node's view, which the shelf absorbs first, to a request of this name.
+fn said_by_view<B: Replicated>(
+    alloc: Global,
+    machine: &NodeMachine,
+    shelf: &mut Shelf<B>,
+    question: (u16, &Query),
+    name: &str,
+) -> Said
+    requires { IsSubset shelf.old.view machine.now.node.replica.view }
+    ensures said { IsSaidAnswer machine.now.node.replica.own question.entry.0 name.now
+        (answer_at (shelf_by shelf.old.objects (kept_by machine.now)) question.entry.0 question.entry.1.now) result }
+    ensures objects { shelf.new.objects ≡ shelf.old.objects }
+    ensures within { IsSubset shelf.new.view machine.now.node.replica.view }
+{
+    let (object, query) = question;
+    match shelf.ask_by(machine.node.view(), object, query) {
+        Ok(answer) => match answer_text(alloc, machine.node.own(), object, &answer, name) {
+            Ok(text) => Said::Lines(text),
+            Err(_) => Said::Refused(Why::Memory),
+        },
+        Err(ShelfError::NoSuchObject) => Said::Refused(Why::NoSuchObject),
+        Err(_) => Said::Refused(Why::Memory),
+    }
+}
+
+/// The update that a question waits for, where it is not in a node's view.
+pub fn still_awaited(machine: &NodeMachine, after: Option<UpdateId>) -> Option<UpdateId>
+    ensures { result ≡ still_awaited machine.now.node.replica.view after }
+{
+    let after = after?;
+    if after.number <= machine.node.view().count_of(after.replica) {
+        return None;
+    }
+    Some(after)
+}
+
+/// That a request of this name waits for an update.
+pub fn said_waiting(alloc: Global, machine: &NodeMachine, after: UpdateId, name: &str) -> Said
+    ensures { IsSaidText (λ text. text ≡ waiting_note machine.now.node.replica.own after name.now) result }
+{
+    match waiting_text(alloc, machine.node.own(), after, name) {
+        Ok(text) => Said::Lines(text),
+        Err(_) => Said::Refused(Why::Memory),
+    }
+}
+
+/// What waits for an answer, once more, and it is counted.
+pub fn said_again(
+    alloc: Global,
+    machine: &NodeMachine,
+    links: &Links,
+    sent: &mut Kinds,
+) -> Said
+    ensures { IsSaidAgain links.now (kept_by machine.now) result }
+{
+    let Ok(mail) = machine.node.again() else {
+        return Said::Refused(Why::Memory);
+    };
+    match mail_text(alloc, links, &machine.node, &mail) {
+        Ok(text) => {
+            count_owed(sent, links, &mail);
+            Said::Lines(text)
+        }
+        Err(_) => Said::Refused(Why::Memory),
+    }
+}
+
+// How far a node is, for another whose letter brought no news; nothing where it brought some.
+fn said_back(alloc: Global, machine: &NodeMachine, letter: &Letter) -> Option<Said>
+    ensures { IsSaidOfMessage (kept_by machine.now) (letter_message letter.now) result }
+{
+    if !is_stale(machine, letter) {
+        return None;
+    }
+    match standing_text(alloc, &machine.node.standing(letter.parcel.from)) {
+        Ok(text) => Some(Said::Lines(text)),
+        Err(_) => Some(Said::Refused(Why::Memory)),
+    }
+}
+
+/// What is said to a question that is a call, once the shelf has absorbed a node's view.
+pub fn said_to_call<B: Replicated>(
+    alloc: Global,
+    machine: &NodeMachine,
+    shelf: &mut Shelf<B>,
+    asking: Asking<'_>,
+    question: (u16, &Query),
+) -> Said
+    requires { IsSubset shelf.old.view machine.now.node.replica.view }
+    ensures said { IsSaidAfter (kept_by machine.now) asking.entry.name.now asking.entry.after
+        (IsSaidAnswer machine.now.node.replica.own question.entry.0 asking.entry.name.now
+        (answer_at (shelf_by shelf.old.objects (kept_by machine.now)) question.entry.0 question.entry.1.now)) result }
+    ensures objects { shelf.new.objects ≡ shelf.old.objects }
+    ensures within { IsSubset shelf.new.view machine.now.node.replica.view }
+{
+    match still_awaited(machine, asking.after) {
+        Some(after) => said_waiting(alloc, machine, after, asking.name),
+        None => said_by_view(alloc, machine, shelf, question, asking.name),
+    }
+}
+
+/// What is said of a call in place of taking it; `None` where it is to be taken.
+pub fn said_here<B: Replicated>(
+    alloc: Global,
+    machine: &NodeMachine,
+    shelf: &Shelf<B>,
+    asking: Asking<'_>,
+    call: &Call,
+) -> Option<Said>
+    requires { may_be_taken (called call.now) ≡ true }
+    ensures { (line : List ℕ) → IsSaidHere shelf.now.objects (kept_by machine.now) (heard_as asking.entry line)
+        (called call.now) result }
+{
+    match call {
+        Call::Submit { object, op, .. } => {
+            said_of_submission(alloc, machine, shelf, asking, (*object, op))
+        }
+        Call::Decide { commit, value, .. } => {
+            said_of_proposal(alloc, machine, (*commit, *value), asking.name)
+        }
+        Call::Receive(letter) => said_back(alloc, machine, letter),
+        Call::Ask { .. } | Call::Tick | Call::Known(_) => unreachable!(),
+    }
+}

@@ -1,0 +1,295 @@
+// la_wire: what a client asks that no call says, what it takes and waits for, and what it is answered.
+use crate::holds::holds;
+use la_node::Links;
+use la_replica::Progress;
+use la_set::{Counts, Tags, UpdateId};
+use la_wire::{
+    Kinds, NodeStatus, Question, Take, Tally, awaited_in, put_status, put_tags_answer,
+    put_updates_answer, put_waiting, question_in, take_in,
+};
+use std::alloc::{AllocError, Global};
+use test_memory::{Came, again, refused};
+
+// ## Lines that are read
+
+const QUESTIONS: [(&str, Option<Question>); 16] = [
+    (
+        "ask 255 65535 tags 18446744073709551615",
+        Some(Question::Tags {
+            replica: 255,
+            object: 65535,
+            element: 18446744073709551615,
+        }),
+    ),
+    (
+        "ask 7 1 updates",
+        Some(Question::Updates {
+            replica: 7,
+            object: 1,
+        }),
+    ),
+    ("status 0", Some(Question::Status { replica: 0 })),
+    ("status", None),
+    ("status 256", None),
+    ("status 00", None),
+    ("status 0 0", None),
+    ("ask 0 3 tags", None),
+    ("ask 0 3 tags 18446744073709551616", None),
+    ("ask 0 65536 tags 4", None),
+    ("ask 256 3 updates", None),
+    ("ask 0 3 updates 4", None),
+    ("ask 0 3  updates", None),
+    ("ask 0 3 size", None),
+    ("submit 0 3 tags 4", None),
+    ("", None),
+];
+
+fn asks(alloc: Global, line: &str, want: Option<Question>) -> Came {
+    match question_in(alloc, line.as_bytes()) {
+        Ok(it) => Some(it == want),
+        Err(_) => None,
+    }
+}
+
+fn asks_all(alloc: Global) -> Came {
+    for (line, want) in QUESTIONS {
+        if !again!(alloc, asks(alloc, line, want))? {
+            return Some(false);
+        }
+    }
+    Some(true)
+}
+
+const TAKES: [(&str, Option<Take>); 10] = [
+    (
+        "submit 255 65535 take 18446744073709551615",
+        Some(Take {
+            replica: 255,
+            number: None,
+            object: 65535,
+            element: 18446744073709551615,
+        }),
+    ),
+    (
+        "submit 7.4294967295 3 take 0",
+        Some(Take {
+            replica: 7,
+            number: Some(4294967295),
+            object: 3,
+            element: 0,
+        }),
+    ),
+    ("submit 7.0 3 take 4", None),
+    ("submit 256 3 take 4", None),
+    ("submit 7 65536 take 4", None),
+    ("submit 7 3 take 04", None),
+    ("submit 7 3 take", None),
+    ("submit 7 3 take 4 5", None),
+    ("submit 7 3 put 4", None),
+    ("ask 7 3 take 4", None),
+];
+
+fn takes(alloc: Global, line: &str, want: Option<Take>) -> Came {
+    match take_in(alloc, line.as_bytes()) {
+        Ok(it) => Some(it == want),
+        Err(_) => None,
+    }
+}
+
+fn takes_all(alloc: Global) -> Came {
+    for (line, want) in TAKES {
+        if !again!(alloc, takes(alloc, line, want))? {
+            return Some(false);
+        }
+    }
+    Some(true)
+}
+
+// A question, the update that it waits for, and the question without that; number 0, and no line, where it waits for
+// none.
+const WAITING: [(&str, u8, u32, &str); 11] = [
+    ("ask 0 3 size at 1.2", 1, 2, "ask 0 3 size"),
+    (
+        "ask 0 3 tags 4 at 255.4294967295",
+        255,
+        4294967295,
+        "ask 0 3 tags 4",
+    ),
+    ("ask 0 3 size  at 1.2", 1, 2, "ask 0 3 size "),
+    ("ask at 1.2", 1, 2, "ask"),
+    ("ask at", 0, 0, ""),
+    ("ask 0 3 size at 1.0", 0, 0, ""),
+    ("ask 0 3 size at 1", 0, 0, ""),
+    ("ask 0 3 size at 1.2 ", 0, 0, ""),
+    ("ask 0 3 size by 1.2", 0, 0, ""),
+    ("status 0 at 1.2", 0, 0, ""),
+    ("", 0, 0, ""),
+];
+
+fn waits(alloc: Global, line: &str, after: UpdateId, plain: &str) -> Came {
+    match awaited_in(alloc, line.as_bytes()) {
+        Ok(Some(it)) => Some(it.after == after && it.plain == plain.as_bytes()),
+        Ok(None) => Some(after.number == 0),
+        Err(_) => None,
+    }
+}
+
+fn waits_all(alloc: Global) -> Came {
+    for (line, replica, number, plain) in WAITING {
+        let after = UpdateId { replica, number };
+        if !again!(alloc, waits(alloc, line, after, plain))? {
+            return Some(false);
+        }
+    }
+    Some(true)
+}
+
+// ## What is answered
+
+// What came of putting a text behind a byte: where memory was refused a part of it may stand there.
+fn put(out: &[u8], came: Result<(), AllocError>, text: &str) -> Came {
+    let [b'=', line @ ..] = out else {
+        return Some(false);
+    };
+    match came {
+        Ok(()) => Some(line == text.as_bytes()),
+        Err(_) => refused(text.as_bytes().starts_with(line)),
+    }
+}
+
+fn tags_of(alloc: Global, ids: &[UpdateId]) -> Option<Tags> {
+    let mut tags = Tags::new(alloc);
+    for id in ids {
+        tags.push(*id).ok()?;
+    }
+    Some(tags)
+}
+
+const IDS: [UpdateId; 2] = [
+    UpdateId {
+        replica: 0,
+        number: 12,
+    },
+    UpdateId {
+        replica: 255,
+        number: 4294967295,
+    },
+];
+
+fn puts_tags(alloc: Global, ids: &[UpdateId], text: &str) -> Came {
+    let tags = tags_of(alloc, ids)?;
+    let mut out = b"=".to_vec(alloc).ok()?;
+    let came = put_tags_answer(&mut out, 7, 65535, &tags, "a-7");
+    put(&out, came, text)
+}
+
+fn puts_updates(alloc: Global, counts: Counts) -> Came {
+    let mut out = b"=".to_vec(alloc).ok()?;
+    let came = put_updates_answer(&mut out, 0, 3, counts, "");
+    put(&out, came, "# r0 answered 3 updates 1 0 2 0 0 0 0 0\n")
+}
+
+fn puts_waiting(alloc: Global) -> Came {
+    let mut out = b"=".to_vec(alloc).ok()?;
+    let came = put_waiting(&mut out, 1, IDS[0], "w.1");
+    put(&out, came, "# r1 waiting 0.12 @w.1\n")
+}
+
+// How node 1 of three replicas stands, which has heard of replica 2.
+fn status(counts: Counts) -> NodeStatus {
+    let mut known = Links::new();
+    let progress = Progress {
+        accepted: counts,
+        view: Counts::zero(),
+    };
+    known.hear(2, progress);
+    let mut tally = Tally::none();
+    tally.received = Kinds {
+        offers: 1,
+        yes: 2,
+        no: 3,
+        tells: 4,
+        known: 5,
+    };
+    tally.refused = 6;
+    tally.written = 18446744073709551615;
+    tally.syncs = 8;
+    NodeStatus {
+        own: 1,
+        replicas: 3,
+        progress,
+        submitted: 4,
+        waiting: 2,
+        ballot: 4294967295,
+        open: true,
+        known,
+        tally,
+    }
+}
+
+const STATUS: &str =
+    "# r1 status version 1.2 has 1,0,2 view 0 submitted 4 waiting 2 ballot 4294967295 open \
+                      peer 0 has 0 view 0 peer 2 has 1,0,2 view 0 \
+                      in offer 1 yes 2 no 3 tell 4 known 5 out offer 0 yes 0 no 0 tell 0 known 0 \
+                      refused 6 written 18446744073709551615 syncs 8 @s\n";
+
+const ALONE: &str = "# r0 status version 1 has 0 view 0 submitted 0 waiting 0 ballot 0 shut \
+                     in offer 0 yes 0 no 0 tell 0 known 0 out offer 0 yes 0 no 0 tell 0 known 0 \
+                     refused 0 written 0 syncs 0\n";
+
+fn puts_status(alloc: Global, counts: Counts) -> Came {
+    let status = status(counts);
+    let mut out = b"=".to_vec(alloc).ok()?;
+    let came = put_status(&mut out, &status, "1.2", "s");
+    put(&out, came, STATUS)
+}
+
+// A group of one replica, of which nothing was counted.
+fn puts_alone(alloc: Global) -> Came {
+    let status = NodeStatus {
+        own: 0,
+        replicas: 1,
+        progress: Progress::none(),
+        submitted: 0,
+        waiting: 0,
+        ballot: 0,
+        open: false,
+        known: Links::new(),
+        tally: Tally::none(),
+    };
+    let mut out = b"=".to_vec(alloc).ok()?;
+    let came = put_status(&mut out, &status, "1", "");
+    put(&out, came, ALONE)
+}
+
+fn reads(alloc: Global) -> Came {
+    Some(asks_all(alloc)? && takes_all(alloc)? && waits_all(alloc)?)
+}
+
+fn puts(alloc: Global) -> Came {
+    let counts = Counts::from([1, 0, 2, 0, 0, 0, 0, 0]);
+    let text = "# r7 answered 65535 tags 0.12 255.4294967295 @a-7\n";
+    Some(
+        again!(alloc, puts_tags(alloc, &IDS, text))?
+            && again!(
+                alloc,
+                puts_tags(alloc, &[], "# r7 answered 65535 tags @a-7\n")
+            )?
+            && again!(alloc, puts_updates(alloc, counts))?
+            && again!(alloc, puts_waiting(alloc))?
+            && again!(alloc, puts_status(alloc, counts))?
+            && again!(alloc, puts_alone(alloc))?,
+    )
+}
+
+#[test]
+fn all_of_questions(rt: HostRuntime) {
+    let alloc = rt.alloc();
+    holds(&rt, again!(alloc, reads(alloc)));
+}
+
+#[test]
+fn all_of_their_answers(rt: HostRuntime) {
+    let alloc = rt.alloc();
+    holds(&rt, again!(alloc, puts(alloc)));
+}
