@@ -1,4 +1,4 @@
-use Rattle.std.proofs.Common.{rules, arith, ◌≡◌, ◌∙◌, sym, ap, ap₂, subst, Bool, ◌&&◌, ◌+◌, ◌≤◌, true, false, take, length, ◌++◌, [], ◌∷◌, tests}
+use Rattle.std.proofs.Common.{rules, arith, ◌≡◌, ◌∙◌, sym, ap, ap₂, Bool, ◌&&◌, ◌+◌, ◌≤◌, true, false, take, length, ◌++◌, [], ◌∷◌}
 use Rattle.std.specs.Prelude.{slice_set}
 use Rattle.std.proofs.lemmas.Grind.{common_steps}
 use Rattle.std.proofs.lemmas.List.{take_more_set}

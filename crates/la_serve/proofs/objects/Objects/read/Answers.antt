@@ -1,10 +1,10 @@
-use Rattle.std.proofs.Common.{rules, tests, eqb, refl, subst, sym, ap, ◌∙◌, ◌≡◌, [], Some}
+use Rattle.std.proofs.Common.{rules, tests, eqb, sym, ap, ◌∙◌}
 use denote.Param.Always.{mut_total}
 use Rattle.std.proofs.lemmas.Iterator.Splits.{YieldsList-from_slice_split}
 use Rattle.std.specs.List.{slice_split}
 use Rattle.std.specs.Slice.Iter as slice
 use Rattle.la_serve.specs.Objects.{are_for_a_shelf}
-use Rattle.la_serve.proofs.ObjectTexts.{ReadsOn, behind, reads_next, reads_none, reads_unfit, reads_all}
+use Rattle.la_serve.proofs.ObjectTexts.{behind, reads_next, reads_none, reads_unfit, reads_all}
 use Rattle.la_serve.proofs.objects.Objects.read.Goals as goal
 
 pub loop-part-init : goal.loop-part-init

@@ -1,4 +1,3 @@
-use Rattle.std.proofs.Common.{◌≡◌}
 use Rattle.la_serve.proofs.ObjectTexts.{ReadsOn}
 use Rattle.la_serve.proofs.objects.Objects.read.Given as goal
 
