@@ -1,6 +1,8 @@
 pub mod Turning
 pub mod OptionLines
 pub mod VoteTexts
+pub mod OwnNumbers
+pub mod ObjectTexts
 pub mod Acting
 pub mod Turns
 pub mod Taking

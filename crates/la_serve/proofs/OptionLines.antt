@@ -24,7 +24,7 @@ use Rattle.la_cli.proofs.lemmas.Entered.{IsNoHelp, enters_well, help_never}
 use Rattle.la_cli.proofs.lemmas.GivenNumbers.{some_is, some≢none}
 use Rattle.la_cli.proofs.lemmas.Faultless.{AllOne, defaults_there, level_reads, next_none, some_kinds}
 use Rattle.la_cli.specs.Calls.{option}
-use Rattle.la_serve.specs.Options.{AreNodeOptions, lattice_node, own, journal_option}
+use Rattle.la_serve.specs.Options.{AreNodeOptions, lattice_node, own, objects_option, journal_option}
 
 -- the command with a version
 abbrev pub versioned : App → App
@@ -82,6 +82,9 @@ tick_rule = filled (option (codes "tick") 0 3600 (codes "0"))
 abbrev compact_rule : Rule
 compact_rule = filled (option (codes "compact") 0 1000000 (codes "0"))
 
+abbrev objects_rule : Rule
+objects_rule = filled objects_option
+
 abbrev journal_rule : Rule
 journal_rule = filled journal_option
 
@@ -90,31 +93,35 @@ no e = absurd (true≢false (sym e))
 
 replicas_alone : AllOne replicas_rule rules
 unfolding clap_on_literals
-replicas_alone = (inr (refl, refl, λ e. refl), (inr (refl, refl, λ e. no e), (inr (refl, refl, λ e. no e), (inr (refl, refl, λ e. no e), (inr (refl, refl, λ e. no e), (inr (refl, refl, λ e. no e), (inr (refl, refl, λ e. no e), (inr (refl, refl, λ e. no e), (inl refl, (inl refl, tt))))))))))
+replicas_alone = (inr (refl, refl, λ e. refl), (inr (refl, refl, λ e. no e), (inr (refl, refl, λ e. no e), (inr (refl, refl, λ e. no e), (inr (refl, refl, λ e. no e), (inr (refl, refl, λ e. no e), (inr (refl, refl, λ e. no e), (inr (refl, refl, λ e. no e), (inr (refl, refl, λ e. no e), (inl refl, (inl refl, tt)))))))))))
 
 own_alone : AllOne own_rule rules
 unfolding clap_on_literals
-own_alone = (inr (refl, refl, λ e. no e), (inr (refl, refl, λ e. refl), (inr (refl, refl, λ e. no e), (inr (refl, refl, λ e. no e), (inr (refl, refl, λ e. no e), (inr (refl, refl, λ e. no e), (inr (refl, refl, λ e. no e), (inr (refl, refl, λ e. no e), (inl refl, (inl refl, tt))))))))))
+own_alone = (inr (refl, refl, λ e. no e), (inr (refl, refl, λ e. refl), (inr (refl, refl, λ e. no e), (inr (refl, refl, λ e. no e), (inr (refl, refl, λ e. no e), (inr (refl, refl, λ e. no e), (inr (refl, refl, λ e. no e), (inr (refl, refl, λ e. no e), (inr (refl, refl, λ e. no e), (inl refl, (inl refl, tt)))))))))))
 
 commits_alone : AllOne commits_rule rules
 unfolding clap_on_literals
-commits_alone = (inr (refl, refl, λ e. no e), (inr (refl, refl, λ e. no e), (inr (refl, refl, λ e. refl), (inr (refl, refl, λ e. no e), (inr (refl, refl, λ e. no e), (inr (refl, refl, λ e. no e), (inr (refl, refl, λ e. no e), (inr (refl, refl, λ e. no e), (inl refl, (inl refl, tt))))))))))
+commits_alone = (inr (refl, refl, λ e. no e), (inr (refl, refl, λ e. no e), (inr (refl, refl, λ e. refl), (inr (refl, refl, λ e. no e), (inr (refl, refl, λ e. no e), (inr (refl, refl, λ e. no e), (inr (refl, refl, λ e. no e), (inr (refl, refl, λ e. no e), (inr (refl, refl, λ e. no e), (inl refl, (inl refl, tt)))))))))))
 
 cap_alone : AllOne cap_rule rules
 unfolding clap_on_literals
-cap_alone = (inr (refl, refl, λ e. no e), (inr (refl, refl, λ e. no e), (inr (refl, refl, λ e. no e), (inr (refl, refl, λ e. refl), (inr (refl, refl, λ e. no e), (inr (refl, refl, λ e. no e), (inr (refl, refl, λ e. no e), (inr (refl, refl, λ e. no e), (inl refl, (inl refl, tt))))))))))
+cap_alone = (inr (refl, refl, λ e. no e), (inr (refl, refl, λ e. no e), (inr (refl, refl, λ e. no e), (inr (refl, refl, λ e. refl), (inr (refl, refl, λ e. no e), (inr (refl, refl, λ e. no e), (inr (refl, refl, λ e. no e), (inr (refl, refl, λ e. no e), (inr (refl, refl, λ e. no e), (inl refl, (inl refl, tt)))))))))))
 
 tick_alone : AllOne tick_rule rules
 unfolding clap_on_literals
-tick_alone = (inr (refl, refl, λ e. no e), (inr (refl, refl, λ e. no e), (inr (refl, refl, λ e. no e), (inr (refl, refl, λ e. no e), (inr (refl, refl, λ e. refl), (inr (refl, refl, λ e. no e), (inr (refl, refl, λ e. no e), (inr (refl, refl, λ e. no e), (inl refl, (inl refl, tt))))))))))
+tick_alone = (inr (refl, refl, λ e. no e), (inr (refl, refl, λ e. no e), (inr (refl, refl, λ e. no e), (inr (refl, refl, λ e. no e), (inr (refl, refl, λ e. refl), (inr (refl, refl, λ e. no e), (inr (refl, refl, λ e. no e), (inr (refl, refl, λ e. no e), (inr (refl, refl, λ e. no e), (inl refl, (inl refl, tt)))))))))))
 
 compact_alone : AllOne compact_rule rules
 unfolding clap_on_literals
-compact_alone = (inr (refl, refl, λ e. no e), (inr (refl, refl, λ e. no e), (inr (refl, refl, λ e. no e), (inr (refl, refl, λ e. no e), (inr (refl, refl, λ e. no e), (inr (refl, refl, λ e. refl), (inr (refl, refl, λ e. no e), (inr (refl, refl, λ e. no e), (inl refl, (inl refl, tt))))))))))
+compact_alone = (inr (refl, refl, λ e. no e), (inr (refl, refl, λ e. no e), (inr (refl, refl, λ e. no e), (inr (refl, refl, λ e. no e), (inr (refl, refl, λ e. no e), (inr (refl, refl, λ e. refl), (inr (refl, refl, λ e. no e), (inr (refl, refl, λ e. no e), (inr (refl, refl, λ e. no e), (inl refl, (inl refl, tt)))))))))))
+
+objects_alone : AllOne objects_rule rules
+unfolding clap_on_literals
+objects_alone = (inr (refl, refl, λ e. no e), (inr (refl, refl, λ e. no e), (inr (refl, refl, λ e. no e), (inr (refl, refl, λ e. no e), (inr (refl, refl, λ e. no e), (inr (refl, refl, λ e. no e), (inr (refl, refl, λ e. refl), (inr (refl, refl, λ e. no e), (inr (refl, refl, λ e. no e), (inl refl, (inl refl, tt)))))))))))
 
 journal_alone : AllOne journal_rule rules
 unfolding clap_on_literals
-journal_alone = (inr (refl, refl, λ e. no e), (inr (refl, refl, λ e. no e), (inr (refl, refl, λ e. no e), (inr (refl, refl, λ e. no e), (inr (refl, refl, λ e. no e), (inr (refl, refl, λ e. no e), (inr (refl, refl, λ e. no e), (inr (refl, refl, λ e. refl), (inl refl, (inl refl, tt))))))))))
+journal_alone = (inr (refl, refl, λ e. no e), (inr (refl, refl, λ e. no e), (inr (refl, refl, λ e. no e), (inr (refl, refl, λ e. no e), (inr (refl, refl, λ e. no e), (inr (refl, refl, λ e. no e), (inr (refl, refl, λ e. no e), (inr (refl, refl, λ e. no e), (inr (refl, refl, λ e. refl), (inl refl, (inl refl, tt)))))))))))
 
 -- ---- what is required is there
 
@@ -190,6 +197,10 @@ module _ (words : List Text) (faultless : level_fault shape [] nothing_held word
       let compact = level_reads compact_rule shape [] words false [] compact_alone
       (defaults_there compact_rule (codes "0") [] (replicas_rule ∷ own_rule ∷ commits_rule ∷ cap_rule ∷ tick_rule ∷ [])
       (drop 6 rules) start refl refl) faultless in
+      let objects = level_reads objects_rule shape [] words false [] objects_alone
+      (defaults_there objects_rule (codes "1=counter,2=max,3=set") []
+      (replicas_rule ∷ own_rule ∷ commits_rule ∷ cap_rule ∷ tick_rule ∷ compact_rule ∷ []) (drop 7 rules) start refl refl)
+      faultless in
       let journal_option = level_reads journal_rule shape [] words false [] journal_alone
       (given_there (codes "journal") rows (not_false _ both_given.1)) faultless in
       record {
@@ -199,6 +210,7 @@ module _ (words : List Text) (faultless : level_fault shape [] nothing_held word
         cap = record { text = cap.0; given = cap.1; passed = cap.2 };
         tick = record { text = tick.0; given = tick.1; passed = tick.2 };
         compact = record { text = compact.0; given = compact.1; passed = compact.2 };
+        objects = (_, objects.1);
         journal = (_, journal_option.1);
       }
 
@@ -253,7 +265,7 @@ some_entered words faultless none =
     let named = faultless_node words faultless in
     some≢none named.0 (sym (none ∙ ap (option_map (λ p. p.1)) named.1))
 
--- ---- the folder's text
+-- ---- the folder's text, and that of the objects
 
 -- where a text is read there is a first value
 pub first_there : (id : Text) (rows : List Row) (t : Text) → one_of id rows ≡ Some t

@@ -20,7 +20,7 @@ pub enum NodeFault {
     #[error("Memory")]
     Memory,
 
-    /// The options are not those of a node: its number or its votes do not fit the group.
+    /// The options are not those of a node: its number or its votes do not fit the group, or its objects no shelf.
     #[error("BadConfig")]
     BadConfig,
 

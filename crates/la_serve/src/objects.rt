@@ -1,7 +1,7 @@
 // The objects of a node's shelf.
 ghost use Rattle.std.specs.Prelude.{◌≡◌, ◌≤◌, ◌++◌, [], ◌∷◌, length, slice_get, IsTrue};
 ghost use Rattle.la_object.specs.Shelves.{kind_at};
-ghost use Rattle.la_serve.specs.Objects.{are_for_a_shelf, kind_named, object_in, objects_in};
+ghost use Rattle.la_serve.specs.Objects.{are_for_a_shelf, have_own_numbers, kind_named, object_in, objects_in};
 
 use la_object::Kind;
 use la_script::{number, split_once};
@@ -62,7 +62,10 @@ impl Objects {
         ensures fits { result ≡ are_for_a_shelf (self.old ++ (number, kind) ∷ []) }
         ensures added { IsTrue result → self.new ≡ self.old ++ (number, kind) ∷ [] }
     {
-        if self.len == ROOM || self.kind_of(number).is_some() {
+        if self.len() == ROOM {
+            return false;
+        }
+        if self.kind_of(number).is_some() {
             return false;
         }
         self.rows[self.len] = (number, kind);
@@ -70,26 +73,35 @@ impl Objects {
         true
     }
 
+    /// Each with its number, in their order.
+    pub fn as_slice(&self) -> &[(u16, Kind)]
+        ensures value { result.now ≡ self.now }
+        ensures own { IsTrue (have_own_numbers self.now) }
+        ensures few { length result.now ≤ 64 }
+    {
+        &self.rows[..self.len]
+    }
+
     /// How many there are.
     pub fn len(&self) -> usize
         ensures len { result ≡ length self.now }
         ensures few { result ≤ 64 }
     {
-        self.len
+        self.as_slice().len()
     }
 
     /// The number and the kind of the one at a place, from 0.
     pub fn at(&self, place: usize) -> Option<(u16, Kind)>
         ensures { result ≡ slice_get self.now place }
     {
-        self.rows[..self.len].get(place).copied()
+        self.as_slice().get(place).copied()
     }
 
     /// The kind of the one under a number.
     pub fn kind_of(&self, number: u16) -> Option<Kind>
         ensures { result ≡ kind_at self.now number }
     {
-        for (here, kind) in &self.rows[..self.len] {
+        for (here, kind) in self.as_slice() {
             if *here == number {
                 return Some(*kind);
             }

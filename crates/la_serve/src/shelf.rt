@@ -17,10 +17,8 @@ pub fn shelf_of<B: Replicated, F: Fn(Kind) -> Result<B, AllocError>>(
     ensures { IfOk result (λ shelf. (shelf.view ≡ empty) × (shelf.objects ≡ objects.now)) }
 {
     let mut shelf = Shelf::new(alloc);
-    for place in 0..objects.len() {
-        if let Some((number, kind)) = objects.at(place) {
-            shelf.add(number, make(kind)?)?;
-        }
+    for (number, kind) in objects.as_slice() {
+        shelf.add(*number, make(*kind)?)?;
     }
     Ok(shelf)
 }

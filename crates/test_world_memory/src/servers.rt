@@ -11,7 +11,7 @@ use la_durable::NodeMachine;
 use la_io::{Listener, WriteFailed, flush, write_some};
 use la_journal::{Disk, Durable, MemoryDisk, Staged, next_group, recover};
 use la_node::{Config, Links};
-use la_object::Shelf;
+use la_object::{Kind, Shelf};
 use la_orset::OrSet;
 use la_proposer::Votes;
 use la_serve::{NodeFault, Objects, Options, Output, Server, command, end_without_journal, run, serve};
@@ -453,7 +453,7 @@ fn words_of(alloc: Global, words: &[&str]) -> Option<Vec<String>> {
     Some(all)
 }
 
-const WORDS: [&str; 9] = [
+const WORDS: [&str; 11] = [
     "lattice",
     "node",
     "--replicas",
@@ -463,7 +463,15 @@ const WORDS: [&str; 9] = [
     "--journal",
     "folder",
     "--cap=7",
+    "--objects",
+    "1=counter,7=set",
 ];
+
+fn are_objects(objects: &Objects) -> bool {
+    objects.len() == 2
+        && matches!(objects.at(0), Some((1, Kind::Counter)))
+        && matches!(objects.kind_of(7), Some(Kind::OrSet))
+}
 
 fn are_options(options: &Options) -> bool {
     let config = options.config;
@@ -472,6 +480,7 @@ fn are_options(options: &Options) -> bool {
         && config.cap == 7
         && options.own == 1
         && options.folder.as_str() == "folder"
+        && are_objects(&options.objects)
 }
 
 fn commands(alloc: Global, words: &[String]) -> Came {

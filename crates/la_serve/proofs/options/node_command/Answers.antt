@@ -6,7 +6,7 @@ use Rattle.clap.specs.declared.builder.command.Command.{Command}
 use Rattle.clap.specs.declared.builder.command.Command.TheOpen.{Command-F}
 use Rattle.clap.specs.declared.builder.command.Command.TheViews.{out-Command}
 use Rattle.la_cli.specs.Calls.{option}
-use Rattle.la_serve.specs.Options.{journal_option, node_named, own, votes_option}
+use Rattle.la_serve.specs.Options.{journal_option, node_named, objects_option, own, votes_option}
 use Rattle.la_serve.proofs.OptionLines.{versioned}
 use Rattle.la_serve.proofs.options.node_command.Goals as goal
 
@@ -35,7 +35,8 @@ returns-clause-app c =
     c.in_ok-compacted.ensures.app 0 1000000
     (rw (c.value_parser-5.ensures, c.new-6.ensures.start, c.new-6.ensures.end) at c.range-kibibytes.ensures)
     ∙ ap (λ (a : App). with_rule a (option (codes "compact") 0 1000000 (codes "0"))) timed in
-    let voted = c.in_ok-voted.ensures.app ∙ ap (λ (a : App). with_rule a votes_option) compacted in
+    let shelved = c.in_ok-shelved.ensures.app ∙ ap (λ (a : App). with_rule a objects_option) compacted in
+    let voted = c.in_ok-voted.ensures.app ∙ ap (λ (a : App). with_rule a votes_option) shelved in
     IfOk-weaker c.with_journal.result _ _ (λ made h. h ∙ ap (λ (a : App). with_rule a journal_option) voted)
     c.with_journal.ensures.app
 
@@ -47,5 +48,6 @@ returns-clause-local c =
     let placed = c.in_ok-placed.ensures.local (c.in_ok-sized.ensures.local start) in
     c.with_journal.ensures.local
     (c.in_ok-voted.ensures.local
+    (c.in_ok-shelved.ensures.local
     (c.in_ok-compacted.ensures.local
-    (c.in_ok-timed.ensures.local (c.in_ok-capped.ensures.local (c.in_ok-shared.ensures.local placed)))))
+    (c.in_ok-timed.ensures.local (c.in_ok-capped.ensures.local (c.in_ok-shared.ensures.local placed))))))

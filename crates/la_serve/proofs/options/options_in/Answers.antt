@@ -1,4 +1,4 @@
-use Rattle.std.proofs.Common.{◌∙◌, ap, codes, arith, sym, option_map, Some}
+use Rattle.std.proofs.Common.{◌∙◌, ap, codes, arith, sym, inl, inr, option_map, Some}
 use Rattle.std.specs.Str.Parse.{ParsesUnsigned, ExplainsUnsignedError, HasUnsignedDigitsIfOk}
 use Rattle.clap.specs.Words.{found_of, rows_of}
 use Rattle.clap.proofs.WalkLemmas.{first_value-rows}
@@ -67,7 +67,10 @@ votes_in-requires-clause-few c =
     replicas.2
 
 pub returns-in_default : goal.returns-in_default
-returns-in_default c = c.in_default.ensures
+returns-in_default c = inl c.in_default.ensures
+
+pub returns-in_default-objects_in : goal.returns-in_default-objects_in
+returns-in_default-objects_in c = inr (sym c.objects_in.ensures ∙ c.in_default-objects_in.is)
 
 pub returns : goal.returns
 returns c =
@@ -114,6 +117,7 @@ returns c =
         most_compact = compact.2;
       };
       votes_given = c.in-Some.ensures;
+      objects_given = sym c.objects_in.ensures ∙ c.in-Some-objects_in.is;
       folder_given =
           sym (first_value-rows found (codes "journal")) ∙ sym c.get_str.ensures
           ∙ ap (option_map (λ s. s.now)) c.unwrap-folder.ensures
