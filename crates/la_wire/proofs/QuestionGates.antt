@@ -1,5 +1,6 @@
 -- Lines whose first word is another are none of these.
-use Rattle.std.proofs.Common.{◌≡◌, ℕ, Bool, ◌&&◌, cond, false, List, [], ◌∷◌, None, refl, sym, ap, ◌∙◌}
+use Rattle.std.proofs.Common.{◌≡◌, ℕ, ◌==◌, Bool, false, ◌&&◌, cond, List, [], ◌∷◌, None, refl}
+use Rattle.std.proofs.Common.{sym, ap, ◌∙◌}
 use Rattle.std.specs.Str.{bytes_eq}
 use Rattle.la_script.specs.declared.forms.Keyword.TheVariants as keyword
 use Rattle.la_script.specs.Forms.{spelling}
@@ -54,16 +55,16 @@ nothing_awaited line other =
 pub no_question_here : (line status_is ask_is : List ℕ) (a b : Bool)
     → a ≡ bytes_eq (front_word line) status_is → b ≡ bytes_eq (front_word line) ask_is → status_is ≡ status_word
     → ask_is ≡ spelling keyword.Ask → a ≡ false → b ≡ false → None ≡ question_in line
-no_question_here line status_is ask_is a b tests asks status ask no neither =
-    sym (no_question line (ap (bytes_eq (front_word line)) (sym status) ∙ sym tests ∙ no)
+no_question_here line status_is ask_is a b tests asks status ask other neither =
+    sym (no_question line (ap (bytes_eq (front_word line)) (sym status) ∙ sym tests ∙ other)
     (ap (bytes_eq (front_word line)) (sym ask) ∙ sym asks ∙ neither))
 
 pub no_take_here : (line word : List ℕ) (a : Bool) → a ≡ bytes_eq (front_word line) word
     → word ≡ spelling keyword.Submit → a ≡ false → None ≡ take_in line
-no_take_here line word a test is no =
-    sym (no_take line (ap (bytes_eq (front_word line)) (sym is) ∙ sym test ∙ no))
+no_take_here line word a test is other =
+    sym (no_take line (ap (bytes_eq (front_word line)) (sym is) ∙ sym test ∙ other))
 
 pub nothing_awaited_here : (line word : List ℕ) (a : Bool) → a ≡ bytes_eq (front_word line) word
     → word ≡ spelling keyword.Ask → a ≡ false → None ≡ awaited_in line
-nothing_awaited_here line word a test is no =
-    sym (nothing_awaited line (ap (bytes_eq (front_word line)) (sym is) ∙ sym test ∙ no))
+nothing_awaited_here line word a test is other =
+    sym (nothing_awaited line (ap (bytes_eq (front_word line)) (sym is) ∙ sym test ∙ other))

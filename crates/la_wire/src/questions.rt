@@ -153,7 +153,6 @@ fn question_by(words: &[&[u8]]) -> Option<Question>
 /// The question that a line is, by its words: `ask R O tags X`, `ask R O updates` or `status R`, with R of 8 bits, O of
 /// 16 and X of 64. Any other line is none, nor is one with a number there that is not canonical or is out of its range,
 /// of which the fault is found where the call is read. It takes memory for the words, at a cost linear in the line.
-#[tactic(auto, using(crate::proofs::QuestionGates::no_question_here))]
 pub fn question_in(alloc: Global, line: &[u8]) -> Result<Option<Question>, AllocError>
     ensures { IfOk result (λ q. q ≡ question_in line.now) }
 {
@@ -208,7 +207,6 @@ fn take_by(words: &[&[u8]]) -> Option<Take>
 /// 1, O of 16 and X of 64. Any other line is none, nor is one with a number there that is not canonical or is out of its
 /// range, of which the fault is found where the call is read. It takes memory for the words, at a cost linear in the
 /// line.
-#[tactic(auto, using(crate::proofs::QuestionGates::no_take_here))]
 pub fn take_in(alloc: Global, line: &[u8]) -> Result<Option<Take>, AllocError>
     ensures { IfOk result (λ t. t ≡ take_in line.now) }
 {
@@ -240,7 +238,6 @@ fn awaited_by<'a>(line: &'a [u8], word: &[u8]) -> Option<Awaited<'a>>
 
 /// A question that waits apart, by its words: a line that begins with `ask` and ends with `at` and an id. Any other line
 /// is none. It takes memory for the words, at a cost linear in the line.
-#[tactic(auto, using(crate::proofs::QuestionGates::nothing_awaited_here))]
 pub fn awaited_in<'a>(alloc: Global, line: &'a [u8]) -> Result<Option<Awaited<'a>>, AllocError>
     ensures { IfOk result (λ a. option_map awaited_line a ≡ awaited_in line.now) }
 {

@@ -29,5 +29,5 @@ returns c =
     let h : four ≡ o ++ spaced 32 (far ++ submitted ++ waiting ++ ballot) =
     e ∙ more_words o three (far ++ submitted ++ waiting) ballot g in
     subst (λ bytes. OnOk c.put_open.result (c.put_open.new.out.items ≡ bytes))
-    (more_words o four (far ++ submitted ++ waiting ++ ballot) (open_word s.open ∷ []) h)
+    (more_words o four (far ++ submitted ++ waiting ++ ballot) (open_word s.asking ∷ []) h)
     c.put_open.ensures
