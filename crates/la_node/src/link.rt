@@ -9,6 +9,7 @@ use crate::Node;
 use la_object::Replicated;
 use la_replica::{Body, Mail, Message, Parcel, Progress};
 use la_set::Counts;
+use smallvec::SmallVec;
 use std::alloc::{AllocError, Global};
 
 /// A parcel on its way, with what its receiver learns by it of its sender.
@@ -116,19 +117,20 @@ impl Links {
         })
     }
 
-    /// Mail of a node as letters, in order, as [`Links::letter`] makes them.
+    /// Mail of a node as letters, in order, as [`Links::letter`] makes them: none is copied. After a refusal the
+    /// mail is dropped.
     pub fn letters<B: Replicated>(
         &self,
         alloc: Global,
         node: &Node<B>,
-        mail: &Mail,
+        mail: Mail,
     ) -> Result<Vec<Letter>, AllocError>
-        ensures ok { IfOk result (λ letters. letters.items ≡ letters_of self.now node.now.replica mail.now) }
-        ensures over { IfOk result (λ _. AreOffersOver self.now mail.now) }
+        ensures ok { IfOk result (λ letters. letters.items ≡ letters_of self.now node.now.replica mail) }
+        ensures over { IfOk result (λ _. AreOffersOver self.now mail) }
     {
         let mut letters = Vec::with_capacity(alloc, mail.len())?;
-        for message in mail.all() {
-            letters.push(self.letter(node, message.copy()?)?)?;
+        for message in SmallVec::from(mail) {
+            letters.push_reserved(self.letter(node, message)?);
         }
         Ok(letters)
     }

@@ -151,7 +151,7 @@ fn letter(node: &Alone) -> Result<usize, AllocError> {
 
 fn letters(node: &Alone, alloc: Global) -> Result<usize, AllocError> {
     let mail = node.again()?;
-    let letters = Links::new().letters(alloc, node, &mail)?;
+    let letters = Links::new().letters(alloc, node, mail)?;
     Ok(letters.len())
 }
 

@@ -59,9 +59,9 @@ impl Link {
         &mut self,
         alloc: Global,
         node: &Node<B>,
-        mail: &Mail,
+        mail: Mail,
     ) -> Result<(), AllocError>
-        ensures { TakesAlong self.old.letters.items self.new.letters.items mail.now }
+        ensures { TakesAlong self.old.letters.items self.new.letters.items mail }
     {
         live::letters_tell_what_was_sent();
         let letters = self.links_of(node.own()).letters(alloc, node, mail)?;
@@ -88,7 +88,7 @@ pub fn add_at<B: Replicated>(
 {
     live::calls_keep_live();
     let out = group[at].submit(1, Op::Inc(by))?;
-    link.send(alloc, &group[at], &out.mail)?;
+    link.send(alloc, &group[at], out.mail)?;
     Ok(())
 }
 
@@ -125,7 +125,7 @@ fn deliver<B: Replicated>(
     }
     link.hear(to, &letter);
     let mail = mail_by(&mut group[to as usize], letter.parcel)?;
-    link.send(alloc, &group[to as usize], &mail)?;
+    link.send(alloc, &group[to as usize], mail)?;
     Ok(())
 }
 

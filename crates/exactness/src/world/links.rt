@@ -56,15 +56,16 @@ fn letters_are_exact<B: Replicated>(
     alloc: Global,
     links: &Links,
     node: &Node<B>,
-    mail: &Mail,
+    mails: (Mail, Mail),
 ) -> (
     Result<Vec<Letter>, AllocError>,
     Result<Vec<Letter>, AllocError>,
 )
+    requires { mails.0 ≡ mails.1 }
     ensures { IfOk result.0 (λ a. IfOk result.1 (λ b. a.items ≡ b.items)) }
 {
     (
-        links.letters(alloc, node, mail),
-        links.letters(alloc, node, mail),
+        links.letters(alloc, node, mails.0),
+        links.letters(alloc, node, mails.1),
     )
 }

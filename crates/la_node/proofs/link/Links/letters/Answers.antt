@@ -1,21 +1,24 @@
-use Rattle.std.proofs.Common.{◌≡◌, ◌<◌, length, get_or, rules, subst, arith}
-use Rattle.std.proofs.lemmas.Grind.{common_steps}
-use Rattle.std.proofs.lemmas.List.Elements.{All-more}
+use Rattle.std.proofs.Common.{◌++◌, ◌∷◌, [], length, ap, sym, subst, ◌∙◌, arith}
+use Rattle.std.proofs.lemmas.List.{append_assoc}
+use Rattle.std.proofs.lemmas.List.Elements.{All-cons}
 use Rattle.la_replica.specs.declared.message.Message as code
 use Rattle.la_replica.specs.Rebased.{IsOfferOver}
-use Rattle.la_node.specs.Links.{told_on}
+use Rattle.la_node.specs.Links.{letters_of, told_on, AreOffersOver}
 use Rattle.la_node.proofs.link.Links.letters.Goals as goal
 
 pub loop-message-preserved : goal.loop-message-preserved
 loop-message-preserved g c =
-    let i = c.loop-message.message-index in
-    let all = c.args.mail.now in
-    let any = c.message-item.result in
-    let Over = λ (m : code.Message). IsOfferOver (told_on c.args.self.now m).body in
-    let within : i < length all = first_of (search rules, omega (arith)) in
-    let copied : c.in_ok-copy.field-0 ≡ get_or all i any = first_of (search rules, grind (arith, common_steps)) in
-    record {
-      within = first_of (search rules, omega (arith, within));
-      so_far = first_of (search rules, grind (arith, common_steps));
-      over = All-more Over all i any within c.loop-message.invariant.over (subst Over copied c.in_ok-letter.ensures.over);
-    }
+    let links = c.args.self.now in
+    let of = letters_of links c.args.node.now.replica in
+    let made = c.loop-message.letters.items in
+    let rest = c.next.new.self in
+    let i = c.loop-message.invariant in
+    let first = c.in-Some.ensures.steps in
+    let put = c.push_reserved.ensures in
+    let letter = c.in_ok-letter.ensures in (
+      ap (λ ls. ls ++ of rest) put.items ∙ append_assoc made (c.in_ok-letter.field-0 ∷ []) (of rest)
+          ∙ ap (λ l. made ++ l ∷ of rest) letter.ok ∙ ap (λ ms. made ++ of ms) (sym first) ∙ i.0,
+      omega (arith, i.1, put.len, put.capacity, ap length first),
+      λ over. i.2 (subst (AreOffersOver links) (sym first)
+          (All-cons (λ (m : code.Message). IsOfferOver (told_on links m).body) c.in-Some.message rest letter.over over)),
+    )

@@ -4,11 +4,11 @@ use Rattle.uses.proofs.ByParcels.{put_one, put_all, all_along, none_along, all_l
 use Rattle.uses.proofs.parcels.Link.send.Goals as goal
 
 pub returns-in_err-letters : goal.returns-in_err-letters
-returns-in_err-letters g c = none_along c.args.self.now.letters.items c.args.mail.now
+returns-in_err-letters g c = none_along c.args.self.now.letters.items c.args.mail
 
 pub returns-in_err-reserve : goal.returns-in_err-reserve
 returns-in_err-reserve g c =
-    all_lost c.args.self.now.letters.items c.reserve.new.self.items c.args.mail.now c.in_err-reserve.ensures.items
+    all_lost c.args.self.now.letters.items c.reserve.new.self.items c.args.mail c.in_err-reserve.ensures.items
 
 pub loop-letter-init : goal.loop-letter-init
 loop-letter-init g c =
@@ -47,7 +47,7 @@ returns g c =
     let after = c.loop-letter.self.letters.items in
     let links = c.links_of.result in
     let r = c.args.node.now.replica in
-    let mail = c.args.mail.now in
+    let mail = c.args.mail in
     let gives = c.into_iter-letter-iterator.ensures.into_iter_gives in
     let put =
     put_all after (into_iter_items c.loop-letter.letter-iterator) _ (sym i.2 ∙ c.in-None.ensures.steps.0) i.0 in
