@@ -15,7 +15,7 @@ use Rattle.la_object.specs.declared.query.Query.TheVariants as query
 use Rattle.la_object.specs.Objects.{value}
 use Rattle.la_serve.specs.declared.said.Why.{Why}
 use Rattle.la_serve.specs.declared.said.Why.TheVariants as why
-use Rattle.la_serve.specs.Said.{takes, query_for, unfit}
+use Rattle.la_serve.specs.Said.{object_takes, query_for, unfit}
 
 abbrev is_foreign : Answer → Bool
 is_foreign answer.Foreign = true
@@ -23,39 +23,39 @@ is_foreign _ = false
 
 module _ (us : List Update) where
   -- what an object of a kind answers to the query for an operation
-  by_query : (k : Kind) (does : Op) (q : Query) → query_for does ≡ Some q → is_foreign (value k us q) ≡ not (takes k does)
+  by_query : (k : Kind) (does : Op) (q : Query) → query_for does ≡ Some q → is_foreign (value k us q) ≡ not (object_takes k does)
   by_query k (op.Inc by) q is =
-      subst (λ x. is_foreign (value k us x) ≡ not (takes k (op.Inc by))) (same_Some query.Total q is) (total k)
+      subst (λ x. is_foreign (value k us x) ≡ not (object_takes k (op.Inc by))) (same_Some query.Total q is) (total k)
     where
-      total : (k : Kind) → is_foreign (value k us query.Total) ≡ not (takes k (op.Inc by))
+      total : (k : Kind) → is_foreign (value k us query.Total) ≡ not (object_takes k (op.Inc by))
       total kind.Counter = refl
       total kind.MaxRegister = refl
       total kind.OrSet = refl
   by_query k (op.Dec by) q is =
-      subst (λ x. is_foreign (value k us x) ≡ not (takes k (op.Dec by))) (same_Some query.Total q is) (total k)
+      subst (λ x. is_foreign (value k us x) ≡ not (object_takes k (op.Dec by))) (same_Some query.Total q is) (total k)
     where
-      total : (k : Kind) → is_foreign (value k us query.Total) ≡ not (takes k (op.Dec by))
+      total : (k : Kind) → is_foreign (value k us query.Total) ≡ not (object_takes k (op.Dec by))
       total kind.Counter = refl
       total kind.MaxRegister = refl
       total kind.OrSet = refl
   by_query k (op.Raise to) q is =
-      subst (λ x. is_foreign (value k us x) ≡ not (takes k (op.Raise to))) (same_Some query.Largest q is) (largest k)
+      subst (λ x. is_foreign (value k us x) ≡ not (object_takes k (op.Raise to))) (same_Some query.Largest q is) (largest k)
     where
-      largest : (k : Kind) → is_foreign (value k us query.Largest) ≡ not (takes k (op.Raise to))
+      largest : (k : Kind) → is_foreign (value k us query.Largest) ≡ not (object_takes k (op.Raise to))
       largest kind.Counter = refl
       largest kind.MaxRegister = refl
       largest kind.OrSet = refl
   by_query k (op.Put x) q is =
-      subst (λ y. is_foreign (value k us y) ≡ not (takes k (op.Put x))) (same_Some query.Size q is) (size k)
+      subst (λ y. is_foreign (value k us y) ≡ not (object_takes k (op.Put x))) (same_Some query.Size q is) (size k)
     where
-      size : (k : Kind) → is_foreign (value k us query.Size) ≡ not (takes k (op.Put x))
+      size : (k : Kind) → is_foreign (value k us query.Size) ≡ not (object_takes k (op.Put x))
       size kind.Counter = refl
       size kind.MaxRegister = refl
       size kind.OrSet = refl
   by_query k (op.Remove tags) q is =
-      subst (λ x. is_foreign (value k us x) ≡ not (takes k (op.Remove tags))) (same_Some query.Size q is) (size k)
+      subst (λ x. is_foreign (value k us x) ≡ not (object_takes k (op.Remove tags))) (same_Some query.Size q is) (size k)
     where
-      size : (k : Kind) → is_foreign (value k us query.Size) ≡ not (takes k (op.Remove tags))
+      size : (k : Kind) → is_foreign (value k us query.Size) ≡ not (object_takes k (op.Remove tags))
       size kind.Counter = refl
       size kind.MaxRegister = refl
       size kind.OrSet = refl
@@ -73,5 +73,5 @@ module _ (us : List Update) where
       → option_map (λ k. value k us q) o ≡ Some a → cond (is_foreign a) (Some why.Foreign) None ≡ unfit o does
   unfit_by_answer None does q a is says = absurd (none-some a says)
   unfit_by_answer (Some k) does q a is says =
-      sym (turned (is_foreign a) (takes k does)
+      sym (turned (is_foreign a) (object_takes k does)
       (sym (ap is_foreign (same_Some (value k us q) a says)) ∙ by_query k does q is))

@@ -5,10 +5,10 @@ pub mod OwnNumbers
 pub mod ObjectTexts
 pub mod Acting
 pub mod Turns
-pub mod Taking
+pub mod TakenLines
 pub mod Fits
-pub mod Counting
-pub mod Saying
+pub mod Tallies
+pub mod SaidTurns
 pub mod Reading
 pub mod Behind
 pub mod Points

@@ -29,7 +29,7 @@ use Rattle.la_wire.specs.Questions.{question_in, take_in}
 use Rattle.la_serve.specs.declared.said.Said.{Said}
 use Rattle.la_serve.specs.declared.said.Said.TheVariants as said
 use Rattle.la_serve.specs.declared.said.Why.{Why}
-use Rattle.la_serve.specs.Heard.{Heard, bare, heard_name, heard_call}
+use Rattle.la_serve.specs.Heard.{HeardLine, bare, heard_name, heard_call}
 use Rattle.la_serve.specs.Numbered.{submissions_by, submission_under, is_next_number}
 use Rattle.la_serve.specs.Once.{MayGoOn, AddsUnder, AsksUnder, NumbersCountOnce}
 use Rattle.la_serve.specs.Serving.{AreTurns}
@@ -126,13 +126,13 @@ numbered_submission say line number c asks says =
     say.numbered (bare line) s.0 c s.1
     (sym (ap (λ (o : Option NumberedLine). named_call (unnumbered (bare line) o)) s.1) ∙ says)
 
-asks_submission : SaySubmissions → (h : Heard) → IsHeardSo h → (number : ℕ) (c : WireCall) → h.number ≡ Some number
+asks_submission : SaySubmissions → (h : HeardLine) → IsHeardSo h → (number : ℕ) (c : WireCall) → h.number ≡ Some number
     → named_call h.call ≡ Some c → IsSubmission c
 asks_submission say h (inl is) number c asks says =
-    numbered_submission say h.line number c (sym (ap (λ (x : Heard). x.number) is) ∙ asks)
-    (sym (ap (λ (x : Heard). named_call x.call) is) ∙ says)
+    numbered_submission say h.line number c (sym (ap (λ (x : HeardLine). x.number) is) ∙ asks)
+    (sym (ap (λ (x : HeardLine). named_call x.call) is) ∙ says)
 asks_submission say h (inr (take, tags, is)) number c asks says =
-    say.written take.replica take.object (op.Remove tags) c (sym (ap (λ (x : Heard). named_call x.call) is) ∙ says)
+    say.written take.replica take.object (op.Remove tags) c (sym (ap (λ (x : HeardLine). named_call x.call) is) ∙ says)
 
 module _ (laws : ProposersGoOn) (say : SaySubmissions) (objects : List (ℕ × Kind)) (n : ServerState) (k number : ℕ)
     (t : Turn) (may : MayGoOn n.kept) (asks : t.heard.number ≡ Some number) where
@@ -146,9 +146,9 @@ module _ (laws : ProposersGoOn) (say : SaySubmissions) (objects : List (ℕ × K
       inl (ap (λ (x : Turn). x.after.kept) is ∙ same, inr (j, why, name, ap (λ (x : Turn). x.text) is ∙ text))
 
   -- a line that says no number
-  unnumbered_line : (h : Heard) → t.heard ≡ h → h.number ≡ None → Comes n number t
+  unnumbered_line : (h : HeardLine) → t.heard ≡ h → h.number ≡ None → Comes n number t
   unnumbered_line h is none =
-      absurd (none-some number (sym none ∙ sym (ap (λ (x : Heard). x.number) is) ∙ asks))
+      absurd (none-some number (sym none ∙ sym (ap (λ (x : HeardLine). x.number) is) ∙ asks))
 
   module _ (replica object : ℕ) (does : Op) (own : (replica == n.kept.own) ≡ true)
       (says : named_call t.heard.call ≡ Some (Submit replica object does)) where
@@ -177,7 +177,7 @@ module _ (laws : ProposersGoOn) (say : SaySubmissions) (objects : List (ℕ × K
         → IsSaidTurn n k (Submit replica object does) o t → Comes n number t
     by_under None next (inl kept) = taken next kept
     by_under None next (inr refusal) = refused _ k _ t.heard.name refusal.turn refl refl
-    by_under (Some (said.Lines text)) (other, same, is) turn =
+    by_under (Some (said.Lines text)) (other, (same, is)) turn =
         inr (d, asks_this, inl (ap (λ (x : Turn). x.after.kept) turn, same))
     by_under (Some (said.Refused w)) is turn = refused_so w turn
 

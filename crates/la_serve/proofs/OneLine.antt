@@ -15,16 +15,16 @@ use Rattle.la_io.specs.Streams.{TellsLine, TellsAll}
 use Rattle.la_serve.specs.declared.error.NodeFault.{NodeFault}
 use Rattle.la_serve.specs.declared.asking.Asking.{Asking}
 use Rattle.la_serve.specs.Asking.{heard_as}
-use Rattle.la_serve.specs.Heard.{Heard, unheard, heard_name}
+use Rattle.la_serve.specs.Heard.{HeardLine, unheard, heard_name}
 use Rattle.la_serve.specs.Io.{Io}
 use Rattle.la_serve.specs.Turns.{Turn, faulty, own_of, is_note, is_elsewhere, IsTurnOf, IsCallTurn}
 use Rattle.la_serve.specs.Serving.{OfLine, OfCall, OfHeard, OfRequest, IsStarvedLine, TakesBy, TakesLine, Breaks}
 use Rattle.la_serve.specs.Serving.{TellsNoLine}
-use Rattle.la_serve.proofs.Taking.{takes_only, takes_more, on_ok_more, if_err_more}
+use Rattle.la_serve.proofs.TakenLines.{takes_only, takes_more, on_ok_more, if_err_more}
 use Rattle.la_serve.proofs.Turns.{note_turn, request_turn, passed_turn}
 
 -- a call that is passed over
-pub call_passed : (heard : Heard) (input : InputState) (k : ℕ) (io : Io)
+pub call_passed : (heard : HeardLine) (input : InputState) (k : ℕ) (io : Io)
     → is_elsewhere io.state.kept (called input.call) ≡ true
     → TakesLine (OfCall heard input IsTurnOf k) TellsNoLine io io
 call_passed heard input k io is =
@@ -62,11 +62,11 @@ module _ {E : Type 0} (heard : E → Option (List ℕ)) (refuses : E → List �
       (refl, note_turn before.objects before.state k line le is) refl refl (Appends-nil before.out))
 
   -- it has a fault
-  pub fault_taken : (k : ℕ) (as : Heard) (before : Io) (e2 : E) (f : LineFault) → IsInputRefusal as.call (Fault f)
-      → TellsLine heard refuses e1 e2 (line_fault_line k f as.name)
-      → TakesLine (OfHeard as k) (TellsAll heard refuses e1 e2) before before
-  fault_taken k as before e2 f refusal t = record {
-    turn = faulty before.state k as f;
+  pub fault_taken : (k : ℕ) (hears : HeardLine) (before : Io) (e2 : E) (f : LineFault) → IsInputRefusal hears.call (Fault f)
+      → TellsLine heard refuses e1 e2 (line_fault_line k f hears.name)
+      → TakesLine (OfHeard hears k) (TellsAll heard refuses e1 e2) before before
+  fault_taken k hears before e2 f refusal t = record {
+    turn = faulty before.state k hears f;
     is = inl (refl, inr (record { fault = f; is = refusal; turn = refl }));
     now_is = refl;
     wrote = Appends-nil before.out;
@@ -75,11 +75,11 @@ module _ {E : Type 0} (heard : E → Option (List ℕ)) (refuses : E → List �
   }
 
 -- a line that says a call
-module _ (k : ℕ) (as : Heard) (before after : Io) (input : InputState) (same : input.line ≡ as.call)
+module _ (k : ℕ) (hears : HeardLine) (before after : Io) (input : InputState) (same : input.line ≡ hears.call)
     (says : named_call input.line ≡ Some (called input.call)) (stands : is_line input.line ≡ true) where
-  pub of_call : (t : Turn) → OfCall as input IsCallTurn k before after t → OfHeard as k before after t
+  pub of_call : (t : Turn) → OfCall hears input IsCallTurn k before after t → OfHeard hears k before after t
   of_call t i =
-      let line : input.line ≡ t.heard.call = same ∙ sym (ap (λ (h : Heard). h.call) i.0) in
+      let line : input.line ≡ t.heard.call = same ∙ sym (ap (λ (h : HeardLine). h.call) i.0) in
       inl (
         i.0,
         inl (record {
@@ -93,7 +93,7 @@ module _ (k : ℕ) (as : Heard) (before after : Io) (input : InputState) (same :
 module _ {E : Type 0} (told : E → Option (List ℕ)) (refuses : E → List ℕ → E → Type 0) (e1 : E) (k : ℕ) (a : Asking)
     (line : List ℕ) (before after : Io) (input : InputState) (same : input.line ≡ line)
     (says : named_call input.line ≡ Some (called input.call)) (stands : is_line input.line ≡ true) where
-  abbrev heard_line : Heard
+  abbrev heard_line : HeardLine
   heard_line = heard_as a input.line
 
   pub ok_heard : {T : Type 0} (r : Result T NodeFault)

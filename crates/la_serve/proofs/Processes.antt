@@ -42,7 +42,7 @@ use Rattle.la_durable.specs.Restarts.{LeadBetween, RestartsTakeCalls}
 use Rattle.la_world.specs.LiveGroups.{LearntSet, learnt_set, learnt_by_call}
 use Rattle.la_world.specs.Together.{AreTogether, IsOfLetters, IsBrought, LeadBrought, NewReplicasAreTogether}
 use Rattle.la_world.specs.Together.{CallsKeepTogether, LostCallsKeepTogether, RepeatsKeepTogether}
-use Rattle.la_serve.specs.Heard.{Heard}
+use Rattle.la_serve.specs.Heard.{HeardLine}
 use Rattle.la_serve.specs.Turns.{ServerState, Turn, noted_by}
 use Rattle.la_serve.specs.Starting.{newly_started}
 use Rattle.la_serve.specs.Processes.{kept_of_all, AreProcesses, IsLineOf, IsHandedCall, IsHandedLine}
@@ -256,14 +256,14 @@ SubmissionsAreReadSo =
     (replica object : ℕ) (does : Op) (c : WireCall) → named_call (call_line_text (Submit replica object does)) ≡ Some c
     → IsSubmission c
 
-handed_so : SubmissionsAreReadSo → (letters : List Letter) (r : ℕ) (h : Heard) → IsHeardSo h
+handed_so : SubmissionsAreReadSo → (letters : List Letter) (r : ℕ) (h : HeardLine) → IsHeardSo h
     → IsHandedLine letters r h.line → IsHandedCall letters r h.call
 handed_so say letters r h (inl is) handed =
-    subst (IsHandedCall letters r) (sym (ap (λ (x : Heard). x.call) is)) handed
+    subst (IsHandedCall letters r) (sym (ap (λ (x : HeardLine). x.call) is)) handed
 handed_so say letters r h (inr (take, tags, is)) handed =
     λ m says to.
     absurd (say take.replica take.object (op.Remove tags) (Receive m)
-    (sym (ap (λ (x : Heard). named_call x.call) is) ∙ says))
+    (sym (ap (λ (x : HeardLine). named_call x.call) is) ∙ says))
 
 module _ (nodes : List ServerState) (letters : List Letter) (learnt : List LearntSet) (r : ℕ) (n : ServerState)
     (are : AreProcesses nodes letters learnt) (at : slice_get nodes r ≡ Some n) where

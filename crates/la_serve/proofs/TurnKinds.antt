@@ -17,7 +17,7 @@ use Rattle.la_node.specs.declared.link.Links.{Links}
 use Rattle.la_serve.specs.declared.said.Said.{Said}
 use Rattle.la_serve.specs.declared.said.Said.TheVariants as said
 use Rattle.la_serve.specs.declared.said.Why.TheVariants.{TooManyTags}
-use Rattle.la_serve.specs.Heard.{Heard, unheard, bare, heard_name, heard_call, heard_take}
+use Rattle.la_serve.specs.Heard.{HeardLine, unheard, bare, heard_name, heard_call, heard_take}
 use Rattle.la_serve.specs.Said.{asks_of}
 use Rattle.la_serve.specs.Takes.{taken_tags}
 use Rattle.la_serve.specs.Turns.{ServerState, Turn, only_writes, only_says, turn_refused, faulty, own_of}
@@ -38,7 +38,7 @@ abbrev pub Repeats : ServerState → Turn → Type 0
 Repeats n t = (known : Links) × IsSentAgain (hearing known n) t
 
 -- what a line calls for, as it says it, or a remove in place of a take
-abbrev pub IsHeardSo : Heard → Type 0
+abbrev pub IsHeardSo : HeardLine → Type 0
 IsHeardSo heard =
     (heard ≡ heard_call heard.line)
     ⊎ ((take : Take) × (tags : List UpdateId) × (heard ≡ heard_take heard.line take tags))

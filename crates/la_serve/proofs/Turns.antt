@@ -17,7 +17,7 @@ use Rattle.la_durable.specs.Nodes.{acts, leaves_be}
 use Rattle.la_durable.specs.Errors.{IsForMemory}
 use Rattle.la_durable.specs.Inputs.{InputState}
 use Rattle.la_wire.specs.Notes.{refused_note}
-use Rattle.la_serve.specs.Heard.{Heard, unheard, bare, heard_name}
+use Rattle.la_serve.specs.Heard.{HeardLine, unheard, bare, heard_name}
 use Rattle.la_serve.specs.Names.{refusal_name}
 use Rattle.la_serve.specs.Turns.{Turn, only_writes, turn_refused, faulty, call_text, own_of, is_note, OneOf, noted_by}
 use Rattle.la_serve.specs.Turns.{ServerState, is_elsewhere, IsKeptTurn, IsTurnHere, IsTurnOf, IsRequestTurn, IsShortTurn}
@@ -58,7 +58,7 @@ module _ (objects : List (ℕ × Kind)) (n : ServerState) (k : ℕ) where
       (sym (ap is_note same ∙ is)) (subst (λ l. IsOtherTurn l t) (sym same) other))
 
   -- a call that is passed over
-  pub passed_turn : (heard : Heard) (call : WireCall) (b : Bool) → b ≡ true → is_elsewhere n.kept call ≡ b
+  pub passed_turn : (heard : HeardLine) (call : WireCall) (b : Bool) → b ≡ true → is_elsewhere n.kept call ≡ b
       → IsTurnOf objects n k call (only_writes n heard [])
   passed_turn heard call b so is =
       let t = only_writes n heard [] in
@@ -66,10 +66,10 @@ module _ (objects : List (ℕ × Kind)) (n : ServerState) (k : ℕ) where
 
 -- ## A call that is kept
 
-abbrev pub OfKept : Heard → InputState → (k : ℕ) → (before after : Io) → Turn → Type 0
+abbrev pub OfKept : HeardLine → InputState → (k : ℕ) → (before after : Io) → Turn → Type 0
 OfKept heard input k = OfCall heard input (λ _. IsKeptTurn) k
 
-module _ (Wrote : (before after : Option (List ℕ)) → List ℕ → Type 0) (k : ℕ) (heard : Heard) (input : InputState)
+module _ (Wrote : (before after : Option (List ℕ)) → List ℕ → Type 0) (k : ℕ) (heard : HeardLine) (input : InputState)
     (before after : Io) where
   pub take_taken : (given : Given) → acts before.state.kept (called input.call) ≡ Some (given, after.state.kept)
       → after.journal

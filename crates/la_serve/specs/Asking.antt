@@ -6,7 +6,7 @@ use Rattle.la_wire.specs.Requests.{numbered_in, numbered_line}
 use Rattle.la_serve.specs.declared.asking.Asking.{Asking}
 use Rattle.la_serve.specs.declared.asking.Request.{Request}
 use Rattle.la_serve.specs.declared.asking.Request.TheVariants as request
-use Rattle.la_serve.specs.Heard.{Heard, heard_name}
+use Rattle.la_serve.specs.Heard.{HeardLine, heard_name}
 
 -- what stands around what it calls for is what its line has
 pub record IsAsking (a : Asking) : Type 0 where
@@ -15,7 +15,7 @@ pub record IsAsking (a : Asking) : Type 0 where
   pub short : length a.name.now ≤ MAX_NAME
 
 -- where it calls for this
-abbrev pub heard_as : Asking → (call : List ℕ) → Heard
+abbrev pub heard_as : Asking → (call : List ℕ) → HeardLine
 heard_as a call = record { line = a.line.now; name = a.name.now; call = call; number = a.update; after = a.after }
 
 -- a line asks for this

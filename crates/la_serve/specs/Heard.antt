@@ -8,7 +8,7 @@ use Rattle.la_wire.specs.CallLines.{call_line_text}
 use Rattle.la_wire.specs.Requests.{NumberedLine, numbered_in, unnumbered, unnamed_in, name_in}
 use Rattle.la_wire.specs.Questions.{AwaitedLine, awaited_in}
 
-pub record Heard : Type 0 where
+pub record HeardLine : Type 0 where
   -- the line, without its end
   pub line : List ℕ
   -- the name of the request, empty where it has none
@@ -21,7 +21,7 @@ pub record Heard : Type 0 where
   pub after : Option UpdateId
 
 -- a line of which no more is looked at
-abbrev pub unheard : List ℕ → Heard
+abbrev pub unheard : List ℕ → HeardLine
 unheard line = record { line = line; name = []; call = []; number = None; after = None }
 
 abbrev pub unawaited : (line : List ℕ) → Option AwaitedLine → List ℕ
@@ -33,7 +33,7 @@ abbrev pub bare : List ℕ → List ℕ
 bare line = unawaited (unnamed_in line) (awaited_in (unnamed_in line))
 
 -- by its name, and by what it waits for
-abbrev pub heard_name : List ℕ → Heard
+abbrev pub heard_name : List ℕ → HeardLine
 heard_name line = record {
   line = line;
   name = name_in line;
@@ -43,14 +43,14 @@ heard_name line = record {
 }
 
 -- by its number too, where it is a submission under one
-abbrev pub heard_call : List ℕ → Heard
+abbrev pub heard_call : List ℕ → HeardLine
 heard_call line = record (heard_name line) {
   call = unnumbered (bare line) (numbered_in (bare line));
   number = option_map (λ (n : NumberedLine). n.number) (numbered_in (bare line));
 }
 
 -- as the submission that takes out what these updates put
-abbrev pub heard_take : List ℕ → Take → List UpdateId → Heard
+abbrev pub heard_take : List ℕ → Take → List UpdateId → HeardLine
 heard_take line take tags = record (heard_name line) {
   call = call_line_text (Submit take.replica take.object (op.Remove tags));
   number = take.number;

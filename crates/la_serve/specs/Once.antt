@@ -8,7 +8,7 @@ use Rattle.la_replica.specs.ReplicaState.{ReplicaState, InInstance}
 use Rattle.la_wire.specs.Calls.{Submit}
 use Rattle.la_wire.specs.CallLines.{named_call}
 use Rattle.la_wire.specs.Notes.{submitted_note}
-use Rattle.la_serve.specs.Heard.{Heard}
+use Rattle.la_serve.specs.Heard.{HeardLine}
 use Rattle.la_serve.specs.Numbered.{submissions_by, submission_under}
 use Rattle.la_serve.specs.Turns.{ServerState, Turn, IsTurn}
 use Rattle.la_serve.specs.Serving.{AreTurns}
@@ -23,7 +23,7 @@ AddsUnder number d before after =
     (number ≡ length (submissions_by before) + 1) × (submissions_by after ≡ submissions_by before ++ d ∷ [])
 
 -- what a line asks of a replica, as it is heard: to submit this, under this number
-pub record AsksUnder (own : ℕ) (heard : Heard) (number : ℕ) (d : ObjectOp) : Type 0 where
+pub record AsksUnder (own : ℕ) (heard : HeardLine) (number : ℕ) (d : ObjectOp) : Type 0 where
   pub numbered : heard.number ≡ Some number
   pub says : named_call heard.call ≡ Some (Submit own d.object d.op)
 

@@ -1,5 +1,5 @@
 -- What is said of a line that the journal does not gain.
-use Rattle.std.specs.Prelude.{◌≡◌, ◌≢◌, ◌⊎◌, ◌≤◌, ◌<◌, ⊤, ⊥, ℕ, ◌==◌, nat_le, Bool, true, false, ◌&&◌, List, [], ◌++◌, filter, codes}
+use Rattle.std.specs.Prelude.{◌≡◌, ◌≢◌, ◌⊎◌, ◌≤◌, ◌<◌, ⊤, ℕ, ◌==◌, nat_le, Bool, true, false, ◌&&◌, List, [], ◌++◌, filter, codes}
 use Rattle.std.specs.Prelude.{length, Option, Some, None, option_map, slice_get, if◌then◌else◌}
 use Rattle.std.specs.List.{list_all}
 use Rattle.la_set.specs.declared.counts.Counts.{Counts}
@@ -45,7 +45,7 @@ use Rattle.la_serve.specs.declared.said.Said.{Said}
 use Rattle.la_serve.specs.declared.said.Said.TheVariants as said
 use Rattle.la_serve.specs.declared.said.Why.{Why}
 use Rattle.la_serve.specs.declared.said.Why.TheVariants as why
-use Rattle.la_serve.specs.Heard.{Heard}
+use Rattle.la_serve.specs.Heard.{HeardLine}
 use Rattle.la_serve.specs.Numbered.{submission_under, is_next_number, proposal_by}
 
 abbrev pub why_word : Why → List ℕ
@@ -96,9 +96,11 @@ IsUntagged o Taken = ⊥
 IsUntagged o NotFresh = ⊥
 
 -- how many updates of an object a set has, of each replica
+abbrev pub count_of : Histories → (object replica : ℕ) → ℕ
+count_of view object r = length (filter (λ (d : ObjectOp). d.object == object) (history view r))
+
 abbrev pub object_counts : Histories → (object : ℕ) → Counts
-object_counts view object =
-    from_counts (λ r. length (filter (λ (d : ObjectOp). d.object == object) (history view r)))
+object_counts view object = from_counts (count_of view object)
 
 -- a set has this update
 abbrev pub is_there : Histories → UpdateId → Bool
@@ -117,6 +119,12 @@ IsSaidUnless n name (Some id) Is s = IsSaidText (λ text. text ≡ waiting_note 
 -- what answers a question, once the view has the update that it waits for; until then, that it waits
 abbrev pub IsSaidAfter : ReplicaState → (name : List ℕ) → (after : Option UpdateId) → (Said → Type 0) → Said → Type 0
 IsSaidAfter n name after Is s = IsSaidUnless n name (still_awaited n.view after) Is s
+
+-- what is said to a question that is a call
+abbrev pub IsSaidToAsk : List (ℕ × Kind) → ReplicaState → (name : List ℕ) → (after : Option UpdateId) → (object : ℕ)
+    → Query → Said → Type 0
+IsSaidToAsk objects n name after object query s =
+    IsSaidAfter n name after (IsSaidAnswer n.own object name (answer_at (shelf_by objects n) object query)) s
 
 -- ## How a node stands
 
@@ -145,8 +153,8 @@ status_by n known tally (Some x) = record {
 }
 
 -- by its instance 0, and by what its process counted
-abbrev pub status_of : ReplicaState → Links → Tally → NodeStatus
-status_of n known tally = status_by n known tally (slice_get n.instances 0)
+abbrev pub told_status : ReplicaState → Links → Tally → NodeStatus
+told_status n known tally = status_by n known tally (slice_get n.instances 0)
 
 abbrev pub node_version : List ℕ
 node_version = codes "0.4.0"
@@ -154,7 +162,7 @@ node_version = codes "0.4.0"
 -- what its process counted is not told apart from other counts
 abbrev pub IsSaidStatus : ReplicaState → (known : Links) → (name : List ℕ) → Said → Type 0
 IsSaidStatus n known name s =
-    IsSaidText (λ text. (tally : Tally) × (text ≡ status_note (status_of n known tally) node_version name)) s
+    IsSaidText (λ text. (tally : Tally) × (text ≡ status_note (told_status n known tally) node_version name)) s
 
 -- whom a question is for
 abbrev pub asks_of : Question → ℕ
@@ -163,7 +171,7 @@ asks_of (Updates replica object) = replica
 asks_of (Status replica) = replica
 
 -- what is said to a question that is no call
-abbrev pub IsSaidToQuestion : List (ℕ × Kind) → ReplicaState → (known : Links) → Heard → Question → Said → Type 0
+abbrev pub IsSaidToQuestion : List (ℕ × Kind) → ReplicaState → (known : Links) → HeardLine → Question → Said → Type 0
 IsSaidToQuestion objects n known h (Tags replica object element) s =
     IsSaidAfter n h.name h.after
     (IsSaidTags n.own object h.name (tags_at (shelf_by objects n) object element)) s
@@ -206,9 +214,9 @@ IsSaidOfMessage n m (Some s) =
 -- ## Submissions
 
 -- an object of a kind takes its own operations, and marks
-abbrev pub takes : Kind → Op → Bool
-takes kind op.Mark = true
-takes kind does = is_of_kind kind does
+abbrev pub object_takes : Kind → Op → Bool
+object_takes kind op.Mark = true
+object_takes kind does = is_of_kind kind does
 
 -- by what an object of a kind that takes an operation can be asked
 abbrev pub query_for : Op → Option Query
@@ -223,7 +231,7 @@ query_for (op.Vote value sole) = None
 -- why an operation is none of an object's
 abbrev pub unfit : Option Kind → Op → Option Why
 unfit None does = Some why.NoSuchObject
-unfit (Some kind) does = if takes kind does then None else Some why.Foreign
+unfit (Some kind) does = if object_takes kind does then None else Some why.Foreign
 
 -- that a submission was done under this number, or that another was, or none
 abbrev pub IsSaidNumbered : (own number : ℕ) → (name : List ℕ) → ObjectOp → Option ObjectOp → Said → Type 0
@@ -241,11 +249,11 @@ IsSaidUnder n name d (Some number) (Some s) =
     (is_next_number n number ≡ false) × IsSaidNumbered n.own number name d (submission_under n number) s
 
 -- an operation that the object does not take is refused
-abbrev pub IsSaidUnlessFit : Option Why → ReplicaState → Heard → ObjectOp → Option Said → Type 0
+abbrev pub IsSaidUnlessFit : Option Why → ReplicaState → HeardLine → ObjectOp → Option Said → Type 0
 IsSaidUnlessFit (Some w) n h d o = o ≡ Some (said.Refused w)
 IsSaidUnlessFit None n h d o = IsSaidUnder n h.name d h.number o
 
-abbrev pub IsSaidOfSubmission : List (ℕ × Kind) → ReplicaState → Heard → ObjectOp → Option Said → Type 0
+abbrev pub IsSaidOfSubmission : List (ℕ × Kind) → ReplicaState → HeardLine → ObjectOp → Option Said → Type 0
 IsSaidOfSubmission objects n h d o = IsSaidUnlessFit (unfit (kind_at objects d.object) d.op) n h d o
 
 -- ## Proposals
@@ -259,9 +267,9 @@ abbrev pub is_this_value : (value : ℕ) → Option ObjectOp → Bool
 is_this_value value None = false
 is_this_value value (Some d) = is_vote_for value d.op
 
-abbrev pub outcome_text : (own commit : ℕ) → Option Outcome → List ℕ
-outcome_text own commit None = []
-outcome_text own commit (Some o) = outcome_note own commit o
+abbrev pub returned_text : (own commit : ℕ) → Option Outcome → List ℕ
+returned_text own commit None = []
+returned_text own commit (Some o) = outcome_note own commit o
 
 -- the value under way, once more: that it is proposed, and what came of it, where it is known
 abbrev pub IsSaidOfProposal : ReplicaState → (name : List ℕ) → (commit value : ℕ) → Option Said → Type 0
@@ -269,7 +277,7 @@ IsSaidOfProposal n name commit value None = is_this_value value (proposal_by n c
 IsSaidOfProposal n name commit value (Some s) =
     (is_this_value value (proposal_by n commit) ≡ true)
     × IsSaidText
-    (λ text. text ≡ proposed_note n.own commit name ++ outcome_text n.own commit (returned_by commit n)) s
+    (λ text. text ≡ proposed_note n.own commit name ++ returned_text n.own commit (returned_by commit n)) s
 
 -- ## Calls
 
@@ -284,13 +292,11 @@ may_be_taken (Known standing) = false
 
 -- What is said of a call instead of taking it, if anything is. A tick sends letters, and of what is known of others
 -- nothing is said.
-abbrev pub IsSaidHere : List (ℕ × Kind) → ReplicaState → Heard → WireCall → Option Said → Type 0
+abbrev pub IsSaidHere : List (ℕ × Kind) → ReplicaState → HeardLine → WireCall → Option Said → Type 0
 IsSaidHere objects n h (Submit replica object does) o = IsSaidOfSubmission objects n h (op_on object does) o
 IsSaidHere objects n h (Decide replica commit value) o = IsSaidOfProposal n h.name commit value o
 IsSaidHere objects n h (Ask replica object query) None = ⊥
-IsSaidHere objects n h (Ask replica object query) (Some s) =
-    IsSaidAfter n h.name h.after
-    (IsSaidAnswer n.own object h.name (answer_at (shelf_by objects n) object query)) s
+IsSaidHere objects n h (Ask replica object query) (Some s) = IsSaidToAsk objects n h.name h.after object query s
 IsSaidHere objects n h Tick o = o ≡ None
 IsSaidHere objects n h (Receive m) o = IsSaidOfMessage n m o
 IsSaidHere objects n h (Known standing) o = o ≡ None

@@ -19,7 +19,9 @@ use Rattle.la_durable.specs.declared.error.NodeError.TheVariants.{Memory}
 use Rattle.la_wire.specs.declared.questions.Question.{Question}
 use Rattle.la_wire.specs.declared.questions.Take.{Take}
 use Rattle.la_wire.specs.Questions.{question_in, take_in}
-use Rattle.la_serve.specs.Heard.{Heard, bare, heard_name}
+use Rattle.la_serve.specs.declared.asking.Asking.{Asking}
+use Rattle.la_serve.specs.Asking.{heard_as}
+use Rattle.la_serve.specs.Heard.{HeardLine, bare, heard_name}
 use Rattle.la_serve.specs.Turns.{Turn, ServerState, IsTurn, IsHeardTurn, IsQuestionTurn, IsRequestTurn, IsTakeTurn, turn_refused}
 
 -- these are the turns of a node from a state on, the first of which is line k's, and this is the state after them
@@ -49,7 +51,7 @@ abbrev pub OfLine : (line : List ℕ) → (k : ℕ) → (before after : Io) → 
 OfLine line k before after t = (t.heard.line ≡ line) × IsTurn before.objects before.state k t
 
 -- of a line that was heard so, and says a call
-abbrev pub OfCall : Heard → InputState → (List (ℕ × Kind) → ServerState → (k : ℕ) → WireCall → Turn → Type 0)
+abbrev pub OfCall : HeardLine → InputState → (List (ℕ × Kind) → ServerState → (k : ℕ) → WireCall → Turn → Type 0)
     → (k : ℕ) → (before after : Io) → Turn → Type 0
 OfCall heard input Is k before after t =
     (t.heard ≡ heard) × Is before.objects before.state k (called input.call) t
@@ -59,7 +61,7 @@ abbrev pub IsStarvedLine : (line : List ℕ) → (k : ℕ) → (before after : I
 IsStarvedLine line k before after t = t ≡ turn_refused before.state k (heard_name line) Memory
 
 -- of a line that was heard so, whether it says a call or has a fault
-abbrev pub OfHeard : Heard → (k : ℕ) → (before after : Io) → Turn → Type 0
+abbrev pub OfHeard : HeardLine → (k : ℕ) → (before after : Io) → Turn → Type 0
 OfHeard heard k before after t =
     IsHeardTurn before.objects before.state k heard t ⊎ IsStarvedLine heard.line k before after t
 
@@ -80,6 +82,20 @@ OfRequest line k before after t =
     (t.heard.line ≡ line)
     × (IsRequestTurn before.objects before.state k (question_in (bare line)) (take_in (bare line)) t
     ⊎ IsStarvedLine line k before after t)
+
+-- the same, by what asks
+abbrev pub OfAsked : Asking → InputState → (List (ℕ × Kind) → ServerState → (k : ℕ) → WireCall → Turn → Type 0)
+    → (before after : Io) → Turn → Type 0
+OfAsked a input Is before after t = OfCall (heard_as a input.line) input Is a.number before after t
+
+abbrev pub OfHeardAs : Asking → (call : List ℕ) → (before after : Io) → Turn → Type 0
+OfHeardAs a call before after t = OfHeard (heard_as a call) a.number before after t
+
+abbrev pub OfTaking : Asking → Take → (before after : Io) → Turn → Type 0
+OfTaking a take before after t = OfTake a.line.now take a.number before after t
+
+abbrev pub OfRequested : Asking → (before after : Io) → Turn → Type 0
+OfRequested a before after t = OfRequest a.line.now a.number before after t
 
 -- a line was taken: what it comes to was written so, and is in the journal
 pub record TakesBy (Wrote : (before after : Option (List ℕ)) → List ℕ → Type 0)

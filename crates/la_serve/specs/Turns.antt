@@ -43,7 +43,7 @@ use Rattle.la_world.specs.LiveGroups.{LearntSet, learnt_set}
 use Rattle.la_serve.specs.Names.{refusal_name}
 use Rattle.la_wire.specs.Notes.{submitted_note, proposed_note, learnt_note, view_note, outcome_note}
 use Rattle.la_wire.specs.Notes.{refused_note, line_fault_line, letters_text}
-use Rattle.la_serve.specs.Heard.{Heard, unheard, bare, heard_name, heard_call, heard_take}
+use Rattle.la_serve.specs.Heard.{HeardLine, unheard, bare, heard_name, heard_call, heard_take}
 use Rattle.la_serve.specs.Said.{said_text, IsSaidHere, IsSaidToQuestion, asks_of}
 use Rattle.la_serve.specs.Takes.{taken_tags}
 
@@ -148,7 +148,7 @@ after_hearing n call = record { kept = n.kept; known = known_after n.kept n.know
 -- what a line comes to
 pub record Turn : Type 0 where
   -- the line, as it is heard
-  pub heard : Heard
+  pub heard : HeardLine
   -- what is written of it
   pub text : List ℕ
   -- the letters among that, and the sets that it notes as learnt
@@ -162,12 +162,12 @@ pub record Turn : Type 0 where
   pub after : ServerState
 
 -- only this is written, and nothing changes
-abbrev pub only_writes : ServerState → Heard → (text : List ℕ) → Turn
+abbrev pub only_writes : ServerState → HeardLine → (text : List ℕ) → Turn
 only_writes n heard text =
     record { heard = heard; text = text; sent = []; learnt = []; kept = []; told = []; after = n }
 
 -- or only these letters
-abbrev pub only_sends : ServerState → Heard → List Letter → Turn
+abbrev pub only_sends : ServerState → HeardLine → List Letter → Turn
 only_sends n heard letters =
     record {
       heard = heard;
@@ -180,15 +180,15 @@ only_sends n heard letters =
     }
 
 -- or this is said, of line k
-abbrev pub only_says : ServerState → (k : ℕ) → Heard → Said → Turn
+abbrev pub only_says : ServerState → (k : ℕ) → HeardLine → Said → Turn
 only_says n k heard s = only_writes n heard (said_text (own_of n) k heard.name s)
 
 -- line k was refused for this
-abbrev pub turn_refused : ServerState → (k : ℕ) → Heard → NodeError → Turn
+abbrev pub turn_refused : ServerState → (k : ℕ) → HeardLine → NodeError → Turn
 turn_refused n k heard e = only_writes n heard (refused_note (own_of n) k (refusal_name e) heard.name)
 
 -- line k has this fault: it is told, and nothing is written
-abbrev pub faulty : ServerState → (k : ℕ) → Heard → LineFault → Turn
+abbrev pub faulty : ServerState → (k : ℕ) → HeardLine → LineFault → Turn
 faulty n k heard fault =
     record {
       heard = heard;
@@ -287,7 +287,7 @@ pub record HasFault (n : ServerState) (k : ℕ) (t : Turn) : Type 0 where
   pub turn : t ≡ faulty n k t.heard fault
 
 -- what was heard so
-abbrev pub IsHeardTurn : List (ℕ × Kind) → ServerState → (k : ℕ) → Heard → Turn → Type 0
+abbrev pub IsHeardTurn : List (ℕ × Kind) → ServerState → (k : ℕ) → HeardLine → Turn → Type 0
 IsHeardTurn objects n k heard t = (t.heard ≡ heard) × (SaysCall objects n k t ⊎ HasFault n k t)
 
 -- this is said of a line of which no more than the name is heard

@@ -6,19 +6,19 @@ ghost use Rattle.la_io.specs.Limits.{is_too_long};
 ghost use Rattle.la_wire.specs.Calls.{called, Submit};
 ghost use Rattle.la_wire.specs.CallLines.{call_line_text};
 ghost use Rattle.la_durable.specs.Nodes.{kept_by};
-ghost use Rattle.la_serve.specs.Asking.{IsAsking, heard_as};
+ghost use Rattle.la_serve.specs.Asking.{IsAsking};
 ghost use Rattle.la_serve.specs.Heard.{bare};
 ghost use Rattle.la_serve.specs.Said.{said_text, may_be_taken};
 ghost use Rattle.la_serve.specs.Turns.{known_after, is_note, is_elsewhere, IsKeptTurn, IsTurnOf, IsCallTurn, IsTurnHere};
 ghost use Rattle.la_serve.specs.Io.{io_of, TakesLines, OnlyStages};
-ghost use Rattle.la_serve.specs.Serving.{OfLine, OfCall, OfHeard, OfQuestion, OfRequest, OfTake, IsStarvedLine};
+ghost use Rattle.la_serve.specs.Serving.{OfLine, OfAsked, OfHeardAs, OfQuestion, OfRequested, OfTaking, IsStarvedLine};
 ghost use Rattle.la_serve.specs.Serving.{TakesLine, Breaks, TellsNoLine};
 
 use crate::asking::{Asking, Request, request_of, unawaited};
 use crate::counting::{count_known, count_mail, count_received, count_refused};
 use crate::keeping::{Kept, keep};
 use crate::names::refusal_name;
-use crate::questions::{asks_of, said_to};
+use crate::questions::{is_own, said_to};
 use crate::said::{Said, why_word};
 use crate::saying::{said_again, said_here, said_to_call};
 use crate::taking::taken_tags;
@@ -91,9 +91,9 @@ fn take<W: Write, D: Disk, B: Replicated>(
     output: &mut W,
 ) -> Result<(), NodeFault>
     requires takes { TakesLines server.old }
-    requires short { length asking.entry.name.now ≤ MAX_NAME }
-    ensures ok { OnOk result (TakesLine (OfCall (heard_as asking.entry input.now.line) input.now (λ _. IsKeptTurn) asking.entry.number) TellsNoLine (io_of (W.contents output.old) server.old) (io_of (W.contents output.new) server.new)) }
-    ensures err { IfErr result (Breaks (OfCall (heard_as asking.entry input.now.line) input.now (λ _. IsKeptTurn) asking.entry.number) TellsNoLine (io_of (W.contents output.old) server.old) (io_of (W.contents output.new) server.new)) }
+    requires short { length asking.name.now ≤ MAX_NAME }
+    ensures ok { OnOk result (TakesLine (OfAsked asking.entry input.now (λ _. IsKeptTurn)) TellsNoLine (io_of (W.contents output.old) server.old) (io_of (W.contents output.new) server.new)) }
+    ensures err { IfErr result (Breaks (OfAsked asking.entry input.now (λ _. IsKeptTurn)) TellsNoLine (io_of (W.contents output.old) server.old) (io_of (W.contents output.new) server.new)) }
     ensures stages { OnlyStages server.old server.new }
 {
     let Server {
@@ -162,20 +162,21 @@ fn take_or_say<W: Write, D: Disk, B: Replicated>(
     output: &mut W,
 ) -> Result<(), NodeFault>
     requires takes { TakesLines server.old }
-    requires short { length asking.entry.name.now ≤ MAX_NAME }
-    requires may { may_be_taken (called input.now.call) ≡ true }
-    ensures ok { OnOk result (TakesLine (OfCall (heard_as asking.entry input.now.line) input.now IsTurnHere asking.entry.number) TellsNoLine (io_of (W.contents output.old) server.old) (io_of (W.contents output.new) server.new)) }
-    ensures err { IfErr result (Breaks (OfCall (heard_as asking.entry input.now.line) input.now IsTurnHere asking.entry.number) TellsNoLine (io_of (W.contents output.old) server.old) (io_of (W.contents output.new) server.new)) }
+    requires asked { (length asking.name.now ≤ MAX_NAME) × (may_be_taken (called input.now.call) ≡ true) }
+    ensures ok { OnOk result (TakesLine (OfAsked asking.entry input.now IsTurnHere) TellsNoLine (io_of (W.contents output.old) server.old) (io_of (W.contents output.new) server.new)) }
+    ensures err { IfErr result (Breaks (OfAsked asking.entry input.now IsTurnHere) TellsNoLine (io_of (W.contents output.old) server.old) (io_of (W.contents output.new) server.new)) }
     ensures stages { OnlyStages server.old server.new }
 {
-    let machine = &server.node.durable.machine;
-    match said_here(alloc, machine, &server.shelf, asking, input.call()) {
+    let Server {
+        node, shelf, tally, ..
+    } = &mut *server;
+    let machine = &node.durable.machine;
+    match said_here(alloc, machine, shelf, asking, input.call()) {
         Some(said) => {
-            let own = machine.node.own();
             if let Call::Receive(_) = input.call() {
-                count_known(&mut server.tally.sent);
+                count_known(&mut tally.sent);
             }
-            put(output, &mut server.tally, own, asking, &said)?;
+            put(output, tally, machine.node.own(), asking, &said)?;
             Ok(())
         }
         None => take(alloc, server, asking, input, output),
@@ -191,9 +192,9 @@ fn call_here<W: Write, D: Disk, B: Replicated>(
     output: &mut W,
 ) -> Result<(), NodeFault>
     requires takes { TakesLines server.old }
-    requires short { length asking.entry.name.now ≤ MAX_NAME }
-    ensures ok { OnOk result (TakesLine (OfCall (heard_as asking.entry input.now.line) input.now IsTurnHere asking.entry.number) TellsNoLine (io_of (W.contents output.old) server.old) (io_of (W.contents output.new) server.new)) }
-    ensures err { IfErr result (Breaks (OfCall (heard_as asking.entry input.now.line) input.now IsTurnHere asking.entry.number) TellsNoLine (io_of (W.contents output.old) server.old) (io_of (W.contents output.new) server.new)) }
+    requires short { length asking.name.now ≤ MAX_NAME }
+    ensures ok { OnOk result (TakesLine (OfAsked asking.entry input.now IsTurnHere) TellsNoLine (io_of (W.contents output.old) server.old) (io_of (W.contents output.new) server.new)) }
+    ensures err { IfErr result (Breaks (OfAsked asking.entry input.now IsTurnHere) TellsNoLine (io_of (W.contents output.old) server.old) (io_of (W.contents output.new) server.new)) }
     ensures stages { OnlyStages server.old server.new }
 {
     match input.call() {
@@ -231,9 +232,9 @@ fn call_heard<W: Write, D: Disk, B: Replicated>(
     output: &mut W,
 ) -> Result<(), NodeFault>
     requires takes { TakesLines server.old }
-    requires short { length asking.entry.name.now ≤ MAX_NAME }
-    ensures ok { OnOk result (TakesLine (OfCall (heard_as asking.entry input.now.line) input.now IsTurnOf asking.entry.number) TellsNoLine (io_of (W.contents output.old) server.old) (io_of (W.contents output.new) server.new)) }
-    ensures err { IfErr result (Breaks (OfCall (heard_as asking.entry input.now.line) input.now IsTurnOf asking.entry.number) TellsNoLine (io_of (W.contents output.old) server.old) (io_of (W.contents output.new) server.new)) }
+    requires short { length asking.name.now ≤ MAX_NAME }
+    ensures ok { OnOk result (TakesLine (OfAsked asking.entry input.now IsTurnOf) TellsNoLine (io_of (W.contents output.old) server.old) (io_of (W.contents output.new) server.new)) }
+    ensures err { IfErr result (Breaks (OfAsked asking.entry input.now IsTurnOf) TellsNoLine (io_of (W.contents output.old) server.old) (io_of (W.contents output.new) server.new)) }
     ensures stages { OnlyStages server.old server.new }
 {
     if is_elsewhere(&server.node.durable.machine, input.call()) {
@@ -251,9 +252,9 @@ fn call<W: Write, D: Disk, B: Replicated>(
     output: &mut W,
 ) -> Result<(), NodeFault>
     requires takes { TakesLines server.old }
-    requires short { length asking.entry.name.now ≤ MAX_NAME }
-    ensures ok { OnOk result (TakesLine (OfCall (heard_as asking.entry input.now.line) input.now IsCallTurn asking.entry.number) TellsNoLine (io_of (W.contents output.old) server.old) (io_of (W.contents output.new) server.new)) }
-    ensures err { IfErr result (Breaks (OfCall (heard_as asking.entry input.now.line) input.now IsCallTurn asking.entry.number) TellsNoLine (io_of (W.contents output.old) server.old) (io_of (W.contents output.new) server.new)) }
+    requires short { length asking.name.now ≤ MAX_NAME }
+    ensures ok { OnOk result (TakesLine (OfAsked asking.entry input.now IsCallTurn) TellsNoLine (io_of (W.contents output.old) server.old) (io_of (W.contents output.new) server.new)) }
+    ensures err { IfErr result (Breaks (OfAsked asking.entry input.now IsCallTurn) TellsNoLine (io_of (W.contents output.old) server.old) (io_of (W.contents output.new) server.new)) }
     ensures stages { OnlyStages server.old server.new }
 {
     let Server {
@@ -270,7 +271,7 @@ fn starve<W: Write, D: Disk, B: Replicated>(
     asking: Asking<'_>,
     output: &mut W,
 ) -> Result<(), NodeFault>
-    requires { IsAsking asking.entry }
+    requires { IsAsking asking }
     ensures ok { OnOk result (TakesLine (IsStarvedLine asking.entry.line.now asking.entry.number) TellsNoLine (io_of (W.contents output.old) server.now) (io_of (W.contents output.new) server.now)) }
     ensures err { IfErr result (Breaks (IsStarvedLine asking.entry.line.now asking.entry.number) TellsNoLine (io_of (W.contents output.old) server.now) (io_of (W.contents output.new) server.now)) }
 {
@@ -288,10 +289,9 @@ fn heard<W: Write, E: Listener, D: Disk, B: Replicated>(
     output: &mut W,
     errors: &mut E,
 ) -> Result<(), NodeFault>
-    requires takes { TakesLines server.old }
-    requires asked { IsAsking asking.entry }
-    ensures ok { OnOk result (TakesLine (OfHeard (heard_as asking.entry line.now) asking.entry.number) (TellsAll E.contents E.refuses errors.old errors.new) (io_of (W.contents output.old) server.old) (io_of (W.contents output.new) server.new)) }
-    ensures err { IfErr result (Breaks (OfHeard (heard_as asking.entry line.now) asking.entry.number) (TellsAll E.contents E.refuses errors.old errors.new) (io_of (W.contents output.old) server.old) (io_of (W.contents output.new) server.new)) }
+    requires { TakesLines server.old × IsAsking asking }
+    ensures ok { OnOk result (TakesLine (OfHeardAs asking.entry line.now) (TellsAll E.contents E.refuses errors.old errors.new) (io_of (W.contents output.old) server.old) (io_of (W.contents output.new) server.new)) }
+    ensures err { IfErr result (Breaks (OfHeardAs asking.entry line.now) (TellsAll E.contents E.refuses errors.old errors.new) (io_of (W.contents output.old) server.old) (io_of (W.contents output.new) server.new)) }
     ensures stages { OnlyStages server.old server.new }
 {
     match Input::read(alloc, line) {
@@ -317,7 +317,7 @@ fn question<W: Write, D: Disk, B: Replicated>(
     output: &mut W,
 ) -> Result<(), NodeFault>
     requires takes { TakesLines server.old }
-    requires asked { IsAsking asking.entry }
+    requires asked { IsAsking asking }
     ensures ok { OnOk result (TakesLine (OfQuestion asking.entry.line.now question asking.entry.number) TellsNoLine (io_of (W.contents output.old) server.old) (io_of (W.contents output.new) server.new)) }
     ensures err { IfErr result (Breaks (OfQuestion asking.entry.line.now question asking.entry.number) TellsNoLine (io_of (W.contents output.old) server.old) (io_of (W.contents output.new) server.new)) }
     ensures stages { OnlyStages server.old server.new }
@@ -330,7 +330,7 @@ fn question<W: Write, D: Disk, B: Replicated>(
     } = server;
     let machine = &node.durable.machine;
     let own = machine.node.own();
-    if asks_of(question) != own {
+    if !is_own(machine, question) {
         return Ok(());
     }
     let said = said_to(alloc, machine, links, tally, shelf, asking, question);
@@ -347,10 +347,9 @@ fn take_out<W: Write, E: Listener, D: Disk, B: Replicated>(
     output: &mut W,
     errors: &mut E,
 ) -> Result<(), NodeFault>
-    requires takes { TakesLines server.old }
-    requires asked { IsAsking asking.entry }
-    ensures ok { OnOk result (TakesLine (OfTake asking.entry.line.now take asking.entry.number) (TellsAll E.contents E.refuses errors.old errors.new) (io_of (W.contents output.old) server.old) (io_of (W.contents output.new) server.new)) }
-    ensures err { IfErr result (Breaks (OfTake asking.entry.line.now take asking.entry.number) (TellsAll E.contents E.refuses errors.old errors.new) (io_of (W.contents output.old) server.old) (io_of (W.contents output.new) server.new)) }
+    requires { TakesLines server.old × IsAsking asking }
+    ensures ok { OnOk result (TakesLine (OfTaking asking.entry take) (TellsAll E.contents E.refuses errors.old errors.new) (io_of (W.contents output.old) server.old) (io_of (W.contents output.new) server.new)) }
+    ensures err { IfErr result (Breaks (OfTaking asking.entry take) (TellsAll E.contents E.refuses errors.old errors.new) (io_of (W.contents output.old) server.old) (io_of (W.contents output.new) server.new)) }
     ensures stages { OnlyStages server.old server.new }
 {
     let Server {
@@ -395,12 +394,9 @@ fn respond<W: Write, E: Listener, D: Disk, B: Replicated>(
     output: &mut W,
     errors: &mut E,
 ) -> Result<(), NodeFault>
-    requires takes { TakesLines server.old }
-    requires asked { IsAsking asking.entry }
-    requires bare { line.now ≡ bare asking.entry.line.now }
-    requires plain { asking.entry.update ≡ None }
-    ensures ok { OnOk result (TakesLine (OfRequest asking.entry.line.now asking.entry.number) (TellsAll E.contents E.refuses errors.old errors.new) (io_of (W.contents output.old) server.old) (io_of (W.contents output.new) server.new)) }
-    ensures err { IfErr result (Breaks (OfRequest asking.entry.line.now asking.entry.number) (TellsAll E.contents E.refuses errors.old errors.new) (io_of (W.contents output.old) server.old) (io_of (W.contents output.new) server.new)) }
+    requires { TakesLines server.old × IsAsking asking × (line.now ≡ bare asking.line.now) × (asking.update ≡ None) }
+    ensures ok { OnOk result (TakesLine (OfRequested asking.entry) (TellsAll E.contents E.refuses errors.old errors.new) (io_of (W.contents output.old) server.old) (io_of (W.contents output.new) server.new)) }
+    ensures err { IfErr result (Breaks (OfRequested asking.entry) (TellsAll E.contents E.refuses errors.old errors.new) (io_of (W.contents output.old) server.old) (io_of (W.contents output.new) server.new)) }
     ensures stages { OnlyStages server.old server.new }
 {
     match request_of(alloc, line) {

@@ -56,8 +56,11 @@ pub fn count_refused(tally: &mut Tally) {
     count(&mut tally.refused);
 }
 
-/// So many bytes were put into the journal, by one sync.
+/// So many bytes were put into the journal, by one sync, if any were.
 pub fn count_sync(tally: &mut Tally, bytes: usize) {
+    if bytes == 0 {
+        return;
+    }
     tally.written = tally.written.saturating_add(bytes as u64);
     count(&mut tally.syncs);
 }

@@ -8,7 +8,7 @@ ghost use Rattle.la_wire.specs.Notes.{updates_note};
 ghost use Rattle.la_durable.specs.Nodes.{kept_by};
 ghost use Rattle.la_serve.specs.Asking.{IsAsking};
 ghost use Rattle.la_serve.specs.Heard.{heard_name};
-ghost use Rattle.la_serve.specs.Said.{asks_of, node_version, object_counts, shelf_by, status_of};
+ghost use Rattle.la_serve.specs.Said.{asks_of, count_of, node_version, object_counts, shelf_by, told_status};
 ghost use Rattle.la_serve.specs.Said.{IsSaidAfter, IsSaidStatus, IsSaidTags, IsSaidText, IsSaidToQuestion, IsUntagged};
 
 use crate::asking::Asking;
@@ -23,8 +23,15 @@ use la_set::{Counts, Tags, UpdateId, UpdateSet};
 use la_wire::{NodeStatus, Question, Tally};
 use std::alloc::Global;
 
-/// Which replica a question is for.
-pub fn asks_of(question: Question) -> u8
+/// Whether a question is for this node.
+pub fn is_own(machine: &NodeMachine, question: Question) -> bool
+    ensures { result ≡ (asks_of question == machine.now.node.replica.own) }
+{
+    asks_of(question) == machine.node.own()
+}
+
+// Which replica a question is for.
+fn asks_of(question: Question) -> u8
     ensures { result ≡ asks_of question }
 {
     match question {
@@ -86,7 +93,7 @@ fn said_tags<B: Replicated>(
 // How many of a replica's updates in a set are of an object, at a look at each.
 fn count_of_object(set: &UpdateSet, object: u16, replica: u8) -> u32
     requires { replica < 8 }
-    ensures { result ≡ length (filter (λ (d : ObjectOp). d.object == object) (history set.now replica)) }
+    ensures { result ≡ count_of set.now object replica }
 {
     let mut count = 0;
     for number in 0..set.count_of(replica) {
@@ -108,8 +115,16 @@ fn count_of_object(set: &UpdateSet, object: u16, replica: u8) -> u32
 fn object_counts(set: &UpdateSet, object: u16) -> Counts
     ensures { result ≡ object_counts set.now object }
 {
-    let of = |replica| count_of_object(set, object, replica);
-    Counts::from([of(0), of(1), of(2), of(3), of(4), of(5), of(6), of(7)])
+    Counts::from([
+        count_of_object(set, object, 0),
+        count_of_object(set, object, 1),
+        count_of_object(set, object, 2),
+        count_of_object(set, object, 3),
+        count_of_object(set, object, 4),
+        count_of_object(set, object, 5),
+        count_of_object(set, object, 6),
+        count_of_object(set, object, 7),
+    ])
 }
 
 // What is said of an object's updates, to a request of this name.
@@ -126,7 +141,7 @@ fn said_updates(alloc: Global, machine: &NodeMachine, object: u16, name: &str) -
 
 // How a node stands.
 fn status_of(machine: &NodeMachine, known: Links, tally: Tally) -> NodeStatus
-    ensures { result ≡ status_of (kept_by machine.now) known tally }
+    ensures { result ≡ told_status (kept_by machine.now) known tally }
 {
     let node = &machine.node;
     let mut status = NodeStatus {
@@ -179,12 +194,9 @@ pub fn said_to<B: Replicated>(
     asking: Asking<'_>,
     question: Question,
 ) -> Said
-    requires within { IsSubset shelf.old.view machine.now.node.replica.view }
-    requires asked { IsAsking asking.entry }
-    ensures said { IsSaidToQuestion shelf.old.objects (kept_by machine.now) links.now
-        (heard_name asking.entry.line.now) question result }
-    ensures objects { shelf.new.objects ≡ shelf.old.objects }
-    ensures within { IsSubset shelf.new.view machine.now.node.replica.view }
+    requires { IsSubset shelf.old.view machine.now.node.replica.view × IsAsking asking }
+    ensures said { IsSaidToQuestion shelf.old.objects (kept_by machine.now) links.now (heard_name asking.entry.line.now) question result }
+    ensures shelf { (shelf.new.objects ≡ shelf.old.objects) × IsSubset shelf.new.view machine.now.node.replica.view }
 {
     let name = asking.name;
     match question {

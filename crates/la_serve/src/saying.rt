@@ -9,7 +9,7 @@ ghost use Rattle.la_wire.specs.Notes.{waiting_note};
 ghost use Rattle.la_durable.specs.Nodes.{kept_by};
 ghost use Rattle.la_serve.specs.Asking.{heard_as};
 ghost use Rattle.la_serve.specs.Said.{shelf_by, is_stale, is_told_known, is_reached, may_be_taken, still_awaited};
-ghost use Rattle.la_serve.specs.Said.{IsSaidAnswer, IsSaidAfter, IsSaidAgain, IsSaidOfMessage, IsSaidText, IsSaidHere};
+ghost use Rattle.la_serve.specs.Said.{IsSaidAnswer, IsSaidAgain, IsSaidOfMessage, IsSaidText, IsSaidHere, IsSaidToAsk};
 
 use crate::asking::Asking;
 use crate::counting::count_owed;
@@ -144,11 +144,8 @@ pub fn said_to_call<B: Replicated>(
     question: (u16, &Query),
 ) -> Said
     requires { IsSubset shelf.old.view machine.now.node.replica.view }
-    ensures said { IsSaidAfter (kept_by machine.now) asking.entry.name.now asking.entry.after
-        (IsSaidAnswer machine.now.node.replica.own question.entry.0 asking.entry.name.now
-        (answer_at (shelf_by shelf.old.objects (kept_by machine.now)) question.entry.0 question.entry.1.now)) result }
-    ensures objects { shelf.new.objects ≡ shelf.old.objects }
-    ensures within { IsSubset shelf.new.view machine.now.node.replica.view }
+    ensures said { IsSaidToAsk shelf.old.objects (kept_by machine.now) asking.entry.name.now asking.entry.after question.entry.0 question.entry.1.now result }
+    ensures shelf { (shelf.new.objects ≡ shelf.old.objects) × IsSubset shelf.new.view machine.now.node.replica.view }
 {
     match still_awaited(machine, asking.after) {
         Some(after) => said_waiting(alloc, machine, after, asking.name),

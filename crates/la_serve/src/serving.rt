@@ -79,9 +79,7 @@ fn flush<W: Write + Drop, D: Disk, B: Replicated>(
     let bytes = server.node.text.len();
     match server.node.commit() {
         Ok(()) => {
-            if bytes > 0 {
-                count_sync(&mut server.tally, bytes);
-            }
+            count_sync(&mut server.tally, bytes);
             output.give(&server.node.durable.disk, held)?;
             held.clear();
             Ok(())

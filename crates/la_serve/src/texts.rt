@@ -7,7 +7,7 @@ ghost use Rattle.la_node.specs.Links.{letter_of, letters_of, is_owed};
 ghost use Rattle.la_wire.specs.Notes.{submitted_note, answered_note, message_line, letters_text, known_line};
 ghost use Rattle.la_wire.specs.Notes.{proposed_note, waiting_note, tags_note, updates_note};
 ghost use Rattle.la_wire.specs.Status.{status_note};
-ghost use Rattle.la_serve.specs.Said.{outcome_text};
+ghost use Rattle.la_serve.specs.Said.{returned_text};
 ghost use Rattle.la_durable.specs.Nodes.{kept_by};
 ghost use Rattle.la_serve.specs.Turns.{taken_text, learnt_line, growth_text, return_text};
 ghost use Rattle.la_serve.specs.Turns.{receipt_text, call_text};
@@ -205,7 +205,7 @@ pub fn proposed_text(
     outcome: Option<Outcome>,
     name: &str,
 ) -> Result<Vec<u8>, AllocError>
-    ensures { IfOk result (λ text. text.items ≡ proposed_note own commit name.now ++ outcome_text own commit outcome) }
+    ensures { IfOk result (λ text. text.items ≡ proposed_note own commit name.now ++ returned_text own commit outcome) }
 {
     let mut out = Vec::with_capacity(alloc, LINE)?;
     put_proposed(&mut out, own, commit, name)?;

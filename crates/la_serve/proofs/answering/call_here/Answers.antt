@@ -4,8 +4,8 @@ use Rattle.la_io.specs.Streams.{AppendsPrefix}
 use Rattle.la_wire.specs.Calls.{called}
 use Rattle.la_serve.specs.declared.error.NodeFault.TheVariants.{WriteFault}
 use Rattle.la_serve.specs.Asking.{heard_as}
-use Rattle.la_serve.proofs.Taking.{if_err_cut}
-use Rattle.la_serve.proofs.Saying.{ask_taken, tick_taken, known_taken}
+use Rattle.la_serve.proofs.TakenLines.{if_err_cut}
+use Rattle.la_serve.proofs.SaidTurns.{ask_taken, tick_taken, known_taken}
 use Rattle.la_serve.proofs.answering.call_here.Goals as goal
 
 pub returns-in_ok-put-in-Ask-clause-ok : goal.returns-in_ok-put-in-Ask-clause-ok

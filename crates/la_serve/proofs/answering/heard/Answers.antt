@@ -5,20 +5,20 @@ use Rattle.la_durable.specs.Inputs.{IsInputRefusal}
 use Rattle.la_io.specs.Streams.{TellsLine}
 use Rattle.la_serve.specs.Asking.{heard_as}
 use Rattle.la_serve.specs.Serving.{OfHeard, IsStarvedLine}
-use Rattle.la_serve.proofs.Taking.{on_ok_more, if_err_more}
+use Rattle.la_serve.proofs.TakenLines.{on_ok_more, if_err_more}
 use Rattle.la_serve.proofs.OneLine.{ok_heard, err_heard, fault_taken, tells_none}
 use Rattle.la_serve.proofs.answering.heard.Goals as goal
 
 pub returns-in-Ok-clause-ok : goal.returns-in-Ok-clause-ok
 returns-in-Ok-clause-ok g c =
     ok_heard g.E.Write.contents g.E.Listener.refuses c.args.errors.now c.args.asking.number c.args.asking
-    c.args.line.now _ _ c.in-Ok.input c.in-Ok.ensures.line c.call-call.ensures.says c.call-call.ensures.line
+    c.args.line.now _ _ c.in-Ok.input c.in-Ok.ensures.ok c.call-call.ensures.says c.call-call.ensures.line
     c.call.result c.call.ensures.ok
 
 pub returns-in-Ok-clause-err : goal.returns-in-Ok-clause-err
 returns-in-Ok-clause-err g c =
     err_heard g.E.Write.contents g.E.Listener.refuses c.args.errors.now c.args.asking.number c.args.asking
-    c.args.line.now _ _ c.in-Ok.input c.in-Ok.ensures.line c.call-call.ensures.says c.call-call.ensures.line
+    c.args.line.now _ _ c.in-Ok.input c.in-Ok.ensures.ok c.call-call.ensures.says c.call-call.ensures.line
     c.call.result c.call.ensures.err
 
 pub returns-in-Err-Fault-clause-ok : goal.returns-in-Err-Fault-clause-ok

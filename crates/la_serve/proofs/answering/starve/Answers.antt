@@ -3,13 +3,13 @@ use Rattle.std.specs.Io.KnownBytes.{Appends}
 use Rattle.la_io.specs.Streams.{AppendsPrefix}
 use Rattle.la_serve.specs.declared.error.NodeFault.TheVariants.{WriteFault}
 use Rattle.la_serve.specs.Io.{io_of}
-use Rattle.la_serve.proofs.Taking.{if_err_cut}
+use Rattle.la_serve.proofs.TakenLines.{if_err_cut}
 use Rattle.la_serve.proofs.Turns.{same_refusal}
 use Rattle.la_serve.proofs.OneLine.{starved}
 use Rattle.la_serve.proofs.answering.starve.Goals as goal
 
-pub returns-in_ok-refuse-clause-ok : goal.returns-in_ok-refuse-clause-ok
-returns-in_ok-refuse-clause-ok g c =
+pub returns-clause-ok : goal.returns-clause-ok
+returns-clause-ok g c =
     let before = g.W.Write.contents c.args.output.now in
     let after = g.W.Write.contents c.refuse.new.output in
     starved Appends c.args.asking.number c.args.asking.line.now (io_of before c.args.server.now) after

@@ -8,7 +8,7 @@ use Rattle.la_node.specs.Steps.{given_of}
 use Rattle.la_durable.specs.Nodes.{kept_by}
 use Rattle.la_serve.specs.declared.error.NodeFault.TheVariants.{WriteFault}
 use Rattle.la_serve.specs.Names.{refusal_name}
-use Rattle.la_serve.proofs.Taking.{if_err_cut}
+use Rattle.la_serve.proofs.TakenLines.{if_err_cut}
 use Rattle.la_serve.specs.Asking.{heard_as}
 use Rattle.la_serve.proofs.Turns.{take_taken, same_text, take_refused, same_refusal, same_kept}
 use Rattle.la_serve.proofs.answering.take.Goals as goal

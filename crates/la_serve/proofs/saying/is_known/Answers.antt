@@ -1,7 +1,7 @@
 use Rattle.std.proofs.Common.{ap, sym, ◌∙◌}
 use Rattle.la_wire.specs.Messages.{said_content}
 use Rattle.la_serve.specs.Said.{is_told_known}
-use Rattle.la_serve.proofs.Saying.{not_known}
+use Rattle.la_serve.proofs.SaidTurns.{not_known}
 use Rattle.la_serve.proofs.saying.is_known.Goals as goal
 
 pub returns-else-has_counts : goal.returns-else-has_counts

@@ -1,6 +1,6 @@
 use Rattle.std.proofs.Common.{sym, ap, leb, ◌&&◌, ◌∙◌}
 use Rattle.la_serve.specs.Said.{is_reached}
-use Rattle.la_serve.proofs.Saying.{one_more}
+use Rattle.la_serve.proofs.SaidTurns.{one_more}
 use Rattle.la_serve.proofs.saying.is_within.Goals as goal
 use Rattle.la_serve.proofs.saying.is_within.Goals.{then-within, else-within}
 

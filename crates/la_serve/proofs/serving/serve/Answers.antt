@@ -6,7 +6,7 @@ use Rattle.la_io.specs.Streams.{TellsAll}
 use Rattle.la_serve.specs.declared.error.NodeFault.TheVariants as fault
 use Rattle.la_serve.specs.Io.{facts}
 use Rattle.la_serve.specs.Serving.{TurnSteps, IsServeRefusal}
-use Rattle.la_serve.proofs.Taking.{if_err_same, on_ok, if_err}
+use Rattle.la_serve.proofs.TakenLines.{if_err_same, on_ok, if_err}
 use Rattle.la_serve.proofs.Behind.{held_io, run_io, Left, so_none, so_more, so_prepared, stopped, at_end, step_cut}
 use Rattle.la_serve.proofs.Behind.{unflushed, then_refused, serves_all}
 use Rattle.la_serve.proofs.Points.{point, start_at, same_state}

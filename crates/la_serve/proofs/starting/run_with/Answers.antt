@@ -23,31 +23,31 @@ returns-in_default g c =
       told = c.ended.ensures.told;
     })
 
-pub returns : goal.returns
-returns g c =
+pub returns-in-Err-default : goal.returns-in-Err-default
+returns-in-Err-default g c =
     let f = facts g.D.Disk.seen g.D.Disk.may_leave g.D.Disk.moment g.D.Disk.left_since g.R.Read.remaining
     g.W.Write.contents g.E.Write.contents g.E.Listener.refuses in
     let old = io c.args.input.now c.args.out.now c.args.errors.now in
     let new = io c.start.new.input c.start.new.out c.start.new.errors in
-    let why = c.in-Err.fault in
+    let why = c.in-Err-default.fault in
     let both = subst
     (λ r.
     IfErr r (λ w.
     IsServerStartRefusal f c.in-Ok.shelf.objects c.args.options.now c.args.disk c.start.result.1 old new w
-    × IfDisk w (g.D.Disk.faults c.args.disk < g.D.Disk.faults c.start.result.1))) c.in-Err.is-0
+    × IfDisk w (g.D.Disk.faults c.args.disk < g.D.Disk.faults c.start.result.1))) c.in-Err-default.is-0
     c.start.ensures.1 in
     let stops : IsServerStartRefusal f c.args.options.now.objects c.args.options.now c.args.disk c.start.result.1 old new why =
     subst (λ objects. IsServerStartRefusal f objects c.args.options.now c.args.disk c.start.result.1 old new why)
     c.in-Ok.ensures.1 both.0 in
     inr (record {
       why = why;
-      is = c.ended-in-Err.ensures.status;
+      is = c.ended-in-Err-default.ensures.status;
       between = c.start.new.errors;
       stops =
           subst (λ d. IsServerStartRefusal f c.args.options.now.objects c.args.options.now c.args.disk d old new why)
-          (sym c.ended-in-Err.ensures.disk) stops;
+          (sym c.ended-in-Err-default.ensures.disk) stops;
       failed =
           subst (λ d. IfDisk why (g.D.Disk.faults c.args.disk < g.D.Disk.faults d))
-          (sym c.ended-in-Err.ensures.disk) both.1;
-      told = c.ended-in-Err.ensures.told;
+          (sym c.ended-in-Err-default.ensures.disk) both.1;
+      told = c.ended-in-Err-default.ensures.told;
     })

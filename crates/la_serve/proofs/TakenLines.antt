@@ -4,17 +4,17 @@ use Rattle.std.specs.Io.KnownBytes.{Appends}
 use Rattle.la_io.specs.Streams.{AppendsPrefix}
 use Rattle.la_serve.specs.declared.error.NodeFault.{NodeFault}
 use Rattle.la_serve.specs.declared.error.NodeFault.TheVariants as fault
-use Rattle.la_serve.specs.Heard.{Heard}
+use Rattle.la_serve.specs.Heard.{HeardLine}
 use Rattle.la_serve.specs.Io.{Io}
 use Rattle.la_serve.specs.Turns.{Turn, only_writes}
 use Rattle.la_serve.specs.Serving.{TakesBy, TakesLine, TakesCut, Breaks, TellsNoLine}
 
 -- nothing changes but what is written
 pub takes_only : (Wrote : (before after : Option (List ℕ)) → List ℕ → Type 0) (Is : (before after : Io) → Turn → Type 0)
-    (before after : Io) (heard : Heard) (text : List ℕ) → Is before after (only_writes before.state heard text)
+    (before after : Io) (heard : HeardLine) (text : List ℕ) → Is before after (only_writes before.state heard text)
     → after.state ≡ before.state → after.journal ≡ before.journal → Wrote before.out after.out text
     → TakesBy Wrote Is TellsNoLine before after
-takes_only Wrote Is before after line text is same still w = record {
+takes_only Wrote Is before after heard text is same still w = record {
   turn = only_writes before.state heard text;
   is = is;
   now_is = sym same;

@@ -1,8 +1,8 @@
 -- A turn by what is said of its line.
 use Rattle.std.proofs.Common.{◌≡◌, ◌↔◌, IsTrue, ℕ, Bool, true, false, ◌&&◌, [], List, append-nil, filter, take}
 use Rattle.std.proofs.Common.{get_or, ◌+◌, slice_get, Some, None, Option, refl, sym, ap, subst, ◌∙◌, inl, inr, length, leb}
-use Rattle.std.proofs.Common.{◌==◌}
-use Rattle.std.proofs.lemmas.Bool.{false≢true}
+use Rattle.std.proofs.Common.{◌==◌, ◌⊎◌, Result, OnOk, IfErr}
+use Rattle.std.proofs.lemmas.Bool.{false≢true, lt-leb}
 use Rattle.std.specs.List.{list_all}
 use Rattle.std.specs.Io.KnownBytes.{Appends}
 use Rattle.std.proofs.KnownBytes.{Appends-nil}
@@ -25,7 +25,6 @@ use Rattle.la_replica.specs.Bases.{AreToldIn}
 use Rattle.la_replica.specs.Whole.{whole_mail}
 use Rattle.la_object.specs.declared.kind.Kind.{Kind}
 use Rattle.la_object.specs.declared.query.Query.{Query}
-use Rattle.la_object.specs.Shelves.{answer_at}
 use Rattle.la_wire.specs.declared.questions.Question.{Question}
 use Rattle.la_wire.specs.declared.questions.Take.{Take}
 use Rattle.la_wire.specs.Notes.{letters_text}
@@ -39,16 +38,17 @@ use Rattle.la_serve.specs.declared.said.Said.TheVariants as said
 use Rattle.la_serve.specs.declared.said.Why.{Why}
 use Rattle.la_serve.specs.declared.said.Why.TheVariants as why
 use Rattle.la_serve.specs.Asking.{IsAsking, heard_as}
-use Rattle.la_serve.specs.Heard.{Heard, bare, heard_name, heard_call, heard_take}
+use Rattle.la_serve.specs.Heard.{HeardLine, bare, heard_name, heard_call, heard_take}
 use Rattle.la_serve.specs.Io.{Io}
 use Rattle.la_serve.specs.Turns.{Turn, ServerState, OneOf, IsKeptTurn, IsSaidTurn, IsAnsweredTurn, IsTurnHere, own_of}
 use Rattle.la_serve.specs.Turns.{only_writes, only_sends, only_says, IsQuestionTurn, IsTakeTurn, IsRequestTurn, IsHeardTurn}
-use Rattle.la_serve.specs.Said.{said_text, shelf_by, is_reached, is_told_known, asks_of, may_be_taken}
-use Rattle.la_serve.specs.Said.{IsSaidAnswer, IsSaidAfter, IsSaidAgain, IsSaidHere, IsSaidToQuestion}
+use Rattle.la_serve.specs.Said.{said_text, is_reached, is_told_known, asks_of, may_be_taken}
+use Rattle.la_serve.specs.Said.{IsSaidToAsk, IsSaidAgain, IsSaidHere, IsSaidToQuestion}
 use Rattle.la_serve.specs.Serving.{OfCall, OfHeard, OfQuestion, OfRequest, OfTake, IsStarvedLine}
-use Rattle.la_serve.specs.Serving.{TakesBy, TakesLine, TellsNoLine}
+use Rattle.la_serve.specs.declared.error.NodeFault.{NodeFault}
+use Rattle.la_serve.specs.Serving.{TakesBy, TakesLine, Breaks, TellsNoLine}
 use Rattle.la_serve.specs.Takes.{taken_tags, IsTakeRefusal}
-use Rattle.la_serve.proofs.Taking.{takes_only}
+use Rattle.la_serve.proofs.TakenLines.{takes_only, on_ok_more, if_err_more}
 use Rattle.la_serve.proofs.Turns.{OfKept}
 
 -- ## Calls
@@ -63,7 +63,7 @@ answered_here objects n k Tick t may is = absurd (false≢true may)
 answered_here objects n k (Receive m) t may is = is
 answered_here objects n k (Known standing) t may is = absurd (false≢true may)
 
-module _ (k : ℕ) (heard : Heard) (input : InputState) (before after : Io)
+module _ (k : ℕ) (heard : HeardLine) (input : InputState) (before after : Io)
     (may : may_be_taken (called input.call) ≡ true)
     (none : IsSaidHere before.objects before.state.kept heard (called input.call) None) where
   -- it is taken, since nothing is said of it
@@ -78,7 +78,7 @@ module _ (k : ℕ) (heard : Heard) (input : InputState) (before after : Io)
   )
 
 -- what is said was written
-module _ (Wrote : (before after : Option (List ℕ)) → List ℕ → Type 0) (k : ℕ) (heard : Heard) (input : InputState)
+module _ (Wrote : (before after : Option (List ℕ)) → List ℕ → Type 0) (k : ℕ) (heard : HeardLine) (input : InputState)
     (before after : Io) (s : Said) (same : after.state ≡ before.state) (still : after.journal ≡ before.journal)
     (own : ℕ) (is_own : own ≡ own_of before.state) (w : Wrote before.out after.out (said_text own k heard.name s)) where
   said_taken : IsTurnHere before.objects before.state k (called input.call) (only_says before.state k heard s)
@@ -97,9 +97,7 @@ module _ (Wrote : (before after : Option (List ℕ)) → List ℕ → Type 0) (k
       (Some s, is, refl))
 
   pub ask_taken : (replica object : ℕ) (query : Query) → called input.call ≡ Ask replica object query
-      → IsSaidAfter before.state.kept heard.name heard.after
-      (IsSaidAnswer (own_of before.state) object heard.name
-      (answer_at (shelf_by before.objects before.state.kept) object query)) s
+      → IsSaidToAsk before.objects before.state.kept heard.name heard.after object query s
       → TakesBy Wrote (OfCall heard input IsTurnHere k) TellsNoLine before after
   ask_taken replica object query e is =
       said_taken
@@ -108,7 +106,7 @@ module _ (Wrote : (before after : Option (List ℕ)) → List ℕ → Type 0) (k
       (Some s, is, refl))
 
 -- what waits is sent once more
-module _ (Wrote : (before after : Option (List ℕ)) → List ℕ → Type 0) (k : ℕ) (heard : Heard) (input : InputState)
+module _ (Wrote : (before after : Option (List ℕ)) → List ℕ → Type 0) (k : ℕ) (heard : HeardLine) (input : InputState)
     (before after : Io) (same : after.state ≡ before.state) (still : after.journal ≡ before.journal) (own : ℕ)
     (is_own : own ≡ own_of before.state) (e : called input.call ≡ Tick) where
   sent_taken : (text : List ℕ) → Wrote before.out after.out text
@@ -149,7 +147,7 @@ module _ (Wrote : (before after : Option (List ℕ)) → List ℕ → Type 0) (k
   tick_taken (said.Refused w) wrote is = starved_tick w is wrote
 
 -- what another is known to have changes nothing else
-pub known_taken : (heard : Heard) (input : InputState) (k : ℕ) (io : Io) (standing : Standing)
+pub known_taken : (heard : HeardLine) (input : InputState) (k : ℕ) (io : Io) (standing : Standing)
     → called input.call ≡ Known standing → TakesLine (OfCall heard input IsTurnHere k) TellsNoLine io io
 known_taken heard input k io standing e =
     takes_only Appends (OfCall heard input IsTurnHere k) io io heard [] (
@@ -216,12 +214,12 @@ heard_so a is take tags b call line name after update says =
 
 module _ (k : ℕ) (line : List ℕ) (take : Take) (before after : Io) where
   -- it is heard so
-  pub take_heard : (as : Heard) → as ≡ heard_take line take (taken_tags before.objects before.state.kept take)
+  pub take_heard : (hears : HeardLine) → hears ≡ heard_take line take (taken_tags before.objects before.state.kept take)
       → leb (length (taken_tags before.objects before.state.kept take)) MAX_TAGS ≡ true → (t : Turn)
-      → OfHeard as k before after t → OfTake line take k before after t
-  take_heard as is few t (inl heard) =
+      → OfHeard hears k before after t → OfTake line take k before after t
+  take_heard hears is few t (inl heard) =
       let so = heard.0 ∙ is in (
-        ap (λ (h : Heard). h.line) so,
+        ap (λ (h : HeardLine). h.line) so,
         inl (subst
             (λ b.
             OneOf b
@@ -230,11 +228,11 @@ module _ (k : ℕ) (line : List ℕ) (take : Take) (before after : Io) where
             (t ≡ only_says before.state k (heard_name t.heard.line) (said.Refused why.TooManyTags)))
             (sym few)
             (so ∙ ap (λ l. heard_take l take (taken_tags before.objects before.state.kept take))
-            (sym (ap (λ (h : Heard). h.line) so)), heard.1)),
+            (sym (ap (λ (h : HeardLine). h.line) so)), heard.1)),
       )
-  take_heard as is few t (inr hungry) =
+  take_heard hears is few t (inr hungry) =
       let now : IsStarvedLine line k before after t =
-      subst (λ l. IsStarvedLine l k before after t) (ap (λ (h : Heard). h.line) is) hungry in
+      subst (λ l. IsStarvedLine l k before after t) (ap (λ (h : HeardLine). h.line) is) hungry in
       (ap (λ (u : Turn). u.heard.line) now, inr now)
 
   pub take_starved : (t : Turn) → IsStarvedLine line k before after t → OfTake line take k before after t
@@ -279,6 +277,41 @@ take_hungry Wrote k line take before after w same still own is_own name is_name 
     (subst (λ (o : ℕ). Wrote before.out after.out (said_text o k (heard_name line).name (said.Refused w))) is_own
     (subst (λ m. Wrote before.out after.out (said_text own k m (said.Refused w))) is_name wrote)))
 
+-- by what it names
+pub take_refused_by : (Wrote : (before after : Option (List ℕ)) → List ℕ → Type 0) (k : ℕ) (line : List ℕ) (take : Take)
+    (before after : Io) (w : Why) → after.state ≡ before.state → after.journal ≡ before.journal
+    → (own : ℕ) → own ≡ own_of before.state → (name : List ℕ) → name ≡ (heard_name line).name
+    → Wrote before.out after.out (said_text own k name (said.Refused w))
+    → IsTakeRefusal (taken_tags before.objects before.state.kept take) w
+    → TakesBy Wrote (OfTake line take k) TellsNoLine before after
+take_refused_by Wrote k line take before after w same still own is_own name is_name wrote (inl (is, many)) =
+    take_refused_so Wrote k line take before after w same still own is_own name is_name wrote
+    (lt-leb (length (taken_tags before.objects before.state.kept take)) MAX_TAGS many) is
+take_refused_by Wrote k line take before after w same still own is_own name is_name wrote (inr is) =
+    take_hungry Wrote k line take before after w same still own is_own name is_name wrote is
+
+-- where the shelf has absorbed more before
+module _ (k : ℕ) (line : List ℕ) (take : Take) (before after : Io) (objects : List (ℕ × Kind))
+    (same : objects ≡ before.objects) (hears : HeardLine)
+    (is : hears ≡ heard_take line take (taken_tags before.objects before.state.kept take))
+    (few : leb (length (taken_tags before.objects before.state.kept take)) MAX_TAGS ≡ true)
+    (Told : List (List ℕ) → Type 0) where
+  pub ok_take : {T : Type 0} (r : Result T NodeFault)
+      → OnOk r (TakesLine (OfHeard hears k) Told (record before { objects = objects }) after)
+      → OnOk r (TakesLine (OfTake line take k) Told before after)
+  ok_take r x =
+      on_ok_more (OfHeard hears k) (OfTake line take k) before after (take_heard k line take before after hears is few)
+      (λ told tells. tells) r
+      (subst (λ os. OnOk r (TakesLine (OfHeard hears k) Told (record before { objects = os }) after)) same x)
+
+  pub err_take : {T : Type 0} (r : Result T NodeFault)
+      → IfErr r (Breaks (OfHeard hears k) Told (record before { objects = objects }) after)
+      → IfErr r (Breaks (OfTake line take k) Told before after)
+  err_take r x =
+      if_err_more (OfHeard hears k) (OfTake line take k) before after (take_heard k line take before after hears is few)
+      (λ told tells. tells) r
+      (subst (λ os. IfErr r (Breaks (OfHeard hears k) Told (record before { objects = os }) after)) same x)
+
 -- ## Any line that is no note
 
 module _ (k : ℕ) (line : List ℕ) (before after : Io) where
@@ -297,18 +330,18 @@ module _ (k : ℕ) (line : List ℕ) (before after : Io) where
 
   pub of_take : (take : Take) → question_in (bare line) ≡ None → take_in (bare line) ≡ Some take → (t : Turn)
       → OfTake line take k before after t → OfRequest line k before after t
-  of_take take no is t (same, does) = requested None (Some take) no is t same does
+  of_take take none is t (same, does) = requested None (Some take) none is t same does
 
-  pub of_heard : (as : Heard) → as ≡ heard_call line → question_in (bare line) ≡ None → take_in (bare line) ≡ None
-      → (t : Turn) → OfHeard as k before after t → OfRequest line k before after t
-  of_heard as is no neither t (inl heard) =
+  pub of_heard : (hears : HeardLine) → hears ≡ heard_call line → question_in (bare line) ≡ None → take_in (bare line) ≡ None
+      → (t : Turn) → OfHeard hears k before after t → OfRequest line k before after t
+  of_heard hears is none neither t (inl heard) =
       let so = heard.0 ∙ is in
-      let same : t.heard.line ≡ line = ap (λ (h : Heard). h.line) so in
-      requested None None no neither t same (inl (so ∙ ap heard_call (sym same), heard.1))
-  of_heard as is no neither t (inr hungry) =
+      let same : t.heard.line ≡ line = ap (λ (h : HeardLine). h.line) so in
+      requested None None none neither t same (inl (so ∙ ap heard_call (sym same), heard.1))
+  of_heard hears is none neither t (inr hungry) =
       let now : IsStarvedLine line k before after t =
-      subst (λ l. IsStarvedLine l k before after t) (ap (λ (h : Heard). h.line) is) hungry in
-      requested None None no neither t (ap (λ (u : Turn). u.heard.line) now) (inr now)
+      subst (λ l. IsStarvedLine l k before after t) (ap (λ (h : HeardLine). h.line) is) hungry in
+      requested None None none neither t (ap (λ (u : Turn). u.heard.line) now) (inr now)
 
 -- ## Whether a told set is known
 
