@@ -117,20 +117,23 @@ class Node:
                         raise
                     self.next += 1  # Another has it: a mark that was sent twice, or a call that met `Ended`.
 
-    def ask(self, number: int, question: str) -> str:
-        """Asks an object, such as `total`, and gives the answer, such as `total 5`."""
-        return " ".join(self._call(f"ask {self.own} {number} {question}")[2:])
+    def take(self, number: int, element: int) -> str:
+        """Takes an element out of a set, by all puts of it that the node has seen, and gives the update's id."""
+        return self.submit(number, f"take {element}")
+
+    def ask(self, number: int, question: str, at: str = "") -> str:
+        """Asks an object, such as `total`, and gives the answer, such as `total 5`. Where it says an update's id, it
+        waits until the view, by which the node answers, has that."""
+        replica, _, count = at.partition(".")
+        while (words := self._call(f"ask {self.own} {number} {question}{at and f' at {at}'}"))[0] == "waiting":
+            self._await(lambda: self.view[int(replica)] >= int(count))
+        return " ".join(words[2:])
 
     def decide(self, number: int, value: int) -> str:
         """Proposes a value to an adopt-commit object, and gives the outcome, such as `commit 3`."""
-        self._call(f"decide {self.own} {number} {value}", again=None)
+        self._call(f"decide {self.own} {number} {value}")
         self._await(lambda: number in self.outcomes)
         return self.outcomes[number]
-
-    def learn(self, ids: list[str]) -> None:
-        """Waits until the view, by which it answers, has these updates."""
-        counts = [tuple(map(int, it.split("."))) for it in ids]
-        self._await(lambda: all(self.view[replica] >= count for replica, count in counts))
 
     def close(self) -> int:
         """Ends its input, and so the node, and gives its status."""
@@ -143,10 +146,13 @@ def main(program: str) -> int:
     with tempfile.TemporaryDirectory() as folder:
         for own in range(3):
             nodes.append(Node(nodes, program, own, Path(folder, str(own))))
-        ids = [nodes[0].submit(1, "inc 5"), nodes[1].submit(2, "raise 7"), nodes[2].submit(3, "put 9")]
+        inc, best, put = nodes[0].submit(1, "inc 5"), nodes[1].submit(2, "raise 7"), nodes[2].submit(3, "put 9")
         for node in nodes:
-            node.learn(ids)
-            print(f"node {node.own}: {node.ask(1, 'total')}, {node.ask(2, 'largest')}, {node.ask(3, 'items')}")
+            total, largest = node.ask(1, "total", at=inc), node.ask(2, "largest", at=best)
+            print(f"node {node.own}: {total}, {largest}, {node.ask(3, 'items', at=put)}")
+        taken = nodes[0].take(3, 9)
+        for node in nodes:
+            print(f"node {node.own}: {node.ask(3, 'items', at=taken)}")
         for node in nodes:
             print(f"node {node.own}: {node.decide(0, 10 + node.own)}")
         return max([node.close() for node in nodes])

@@ -13,8 +13,11 @@ from collections import Counter, defaultdict, deque
 from dataclasses import dataclass, field
 
 from .hearing import Hearing, Told, larger, smaller, within
-from .lines import FAULTY, FORMS, NOTHING, Counts, Malformed, Message, read_counts, read_message, read_note
-from .objects import COUNTER, REGISTER, SET, Named, answer
+from .lines import (
+    FAULTY, FORMS, NOTHING, Counts, Malformed, Message, Standing, apart, read_counts, read_message, read_note,
+    read_standing,
+)
+from .objects import TAKES, Named, answer, tags_of, unfit
 
 Entry = tuple[str, int, str]
 # No refusal of a group to whose nodes nobody lies.
@@ -48,7 +51,11 @@ class Seen:
     again: int = 0
     ever_lost: set[str] = field(default_factory=set)
     submitted: dict[int, str] = field(default_factory=dict)
-    proposed: set[int] = field(default_factory=set)
+    # How many submissions it said that it has.
+    counted: int = 0
+    # By adopt-commit object: what it proposed; and the one whose outcome its next line has to say once more.
+    proposed: dict[int, int] = field(default_factory=dict)
+    returns: int | None = None
     kills_since: dict[int, int] = field(default_factory=dict)
     view: Counts = NOTHING
     # Whether no kill may have swallowed a later view.
@@ -63,11 +70,46 @@ class Seen:
     passed: bool = True
     # What it has to say of faulty lines.
     to_say: deque[str] = field(default_factory=deque)
+    # Of this life: the messages that it was given, by line; those that it sent, by kind; how many lines it refused; and
+    # what it said last of its journal.
+    came: list[tuple[int, str]] = field(default_factory=list)
+    sent: Counter[str] = field(default_factory=Counter)
+    refused: int = 0
+    journal: Counts = (0, 0)
+
+    def begin(self) -> None:
+        """A life begins."""
+        self.line, self.passed, self.returns = 0, True, None
+        self.names.clear()
+        self.hearing.begin()
+        self.untold.clear()
+        self.came.clear()
+        self.sent.clear()
+        self.refused, self.journal = 0, (0, 0)
+
+    def least(self) -> int:
+        """How many submissions it has taken at least."""
+        return max([*self.submitted, self.counted])
+
+    def most(self) -> int:
+        """How many it may have taken."""
+        return max([*self.submitted, *self.lost_numbers, self.counted]) + len(self.lost)
 
 
 def asked_number(words: list[str]) -> int | None:
     """The number under which a line submits; none, where it says none."""
     return int(words[1].partition(".")[2]) if words[0] == "submit" and "." in words[1] else None
+
+
+def is_take(content: str) -> bool:
+    """Whether a submission takes an element out."""
+    return content.split(" ")[1] == "take"
+
+
+def has_update(view: Counts, update: str) -> bool:
+    """Whether a view has the update with this id."""
+    replica, _, number = update.partition(".")
+    return int(replica) < len(view) and int(number) <= view[int(replica)]
 
 
 class Checker:
@@ -78,9 +120,10 @@ class Checker:
         self.faults: list[str] = []
         self.nodes = [Seen() for _ in range(group.replicas)]
         self.contents: dict[tuple[int, int, int], str] = {}
-        # By object and participant: what it may have proposed, and how often it was to.
-        self.proposals: dict[tuple[int, int], list[int]] = defaultdict(list)
-        self.decides: Counter[tuple[int, int]] = Counter()
+        # By submission: what its node's view had at most when it was made.
+        self.views: dict[tuple[int, int], Counts] = {}
+        # By object and participant: what it may have proposed.
+        self.proposals: dict[tuple[int, int], set[int]] = defaultdict(set)
         self.offered: dict[tuple[int, int, int], Counts] = {}
         self.accepted: dict[tuple[int, int], Counts] = {}
         self.yeses: dict[tuple[int, int, int], set[int]] = defaultdict(set)
@@ -108,10 +151,7 @@ class Checker:
             self.fault("flipped", own, line)
 
     def take_start(self, own: int, torn: str) -> None:
-        self.nodes[own].line, self.nodes[own].passed = 0, True
-        self.nodes[own].names.clear()
-        self.nodes[own].hearing.begin()
-        self.nodes[own].untold.clear()
+        self.nodes[own].begin()
         if torn != "0":
             self.nodes[own].to_say.append(f"cut {torn}")
 
@@ -125,19 +165,16 @@ class Checker:
         words = line.split(" ")
         node.line += 1
         node.names[node.line] = name
-        mine = words[:2] in ([it, str(own)] for it in ("submit", "decide", "ask"))
+        mine = words[:2] in ([it, str(own)] for it in ("submit", "decide", "ask", "status"))
         mine = mine or words[0] == "submit" and words[1].startswith(f"{own}.")
         here = [str(self.group.replicas), str(own)]
         mailed = words[0] in ("offer", "yes", "no", "tell") and words[1:4:2] == here
         if line in FAULTY:
             return node.to_say.append(f"line {node.line}: {FAULTY[line]}" + (f" @{name}" if name else ""))
         self.hear(own, line)
-        node.passed = node.passed and not (mine and words[0] != "ask" or mailed or words == ["tick"])
+        node.passed = node.passed and not (mine and words[0] in ("submit", "decide") or mailed or words == ["tick"])
         if mine:
             node.awaited.append((node.line, words))
-        if mine and words[0] == "decide":
-            self.proposals[int(words[2]), own].append(int(words[3]))
-            self.decides[int(words[2]), own] += 1
 
     def hear(self, own: int, line: str) -> None:
         """A node takes note of how far the sender of a line of its group is, whoever that is for."""
@@ -146,6 +183,7 @@ class Checker:
             it = read_message(line) if line.split(" ", 1)[0] in FORMS else None
         except Malformed:
             return
+        node.came += [(node.line, it.verb)] if it else []
         if it and it.group == self.group.replicas and it.sender < it.group:
             node.hearing.given(node.line, it)
             if it.verb == "tell" and it.to == own:
@@ -158,11 +196,13 @@ class Checker:
 
     def take_killed(self, own: int, _line: str) -> None:
         node = self.nodes[own]
-        lost = [words for _, words in node.awaited if words[0] == "submit"]
+        lost = [words for _, words in node.awaited if words[0] == "submit" and not unfit(int(words[2]), words[3])]
         node.lost += [" ".join(words[2:]) for words in lost if asked_number(words) is None]
         for number in sorted(asked_number(words) or 0 for words in lost):
-            node.lost_numbers.update([number] if 0 < number <= self.most(own) + 1 else [])
+            node.lost_numbers.update([number] if 0 < number <= node.most() + 1 else [])
         node.ever_lost.update(" ".join(words[2:]) for words in lost)
+        for words in (words for _, words in node.awaited if words[0] == "decide"):
+            self.proposals[int(words[2]), own].update([] if int(words[2]) in node.proposed else [int(words[3])])
         node.awaited.clear()
         node.to_say.clear()
         node.exact = node.firm = False
@@ -182,11 +222,14 @@ class Checker:
 
     def take_out(self, own: int, line: str) -> None:
         node = self.nodes[own]
-        asked = bool(node.awaited) and node.awaited[0][1][0] == "ask"
+        asked = bool(node.awaited) and node.awaited[0][1][0] in ("ask", "status")
         if node.passed and not asked:
             self.fault("silent", own, line)
         # The answer to the last line that was given.
         node.passed = node.passed or asked and node.awaited[0][0] == node.line and line.startswith("# r")
+        returns, node.returns = node.returns, None
+        if returns is not None and not line.startswith(f"# r{own} outcome {returns} "):
+            self.fault("returned", own, f"{line}, and not the outcome of object {returns} once more")
         try:
             if line.startswith("#"):
                 self.note(own, line)
@@ -220,34 +263,37 @@ class Checker:
         content, asked = " ".join(words[2:]), asked_number(words)
         if asked not in (None, at):
             self.fault("numbers", own, f"{' '.join(words)}: {replica}.{number}")
+        if why := unfit(int(words[2]), words[3]):
+            self.fault("refused", own, f"{' '.join(words)}: not {why}")
         if asked in node.submitted:
             node.again += 1
-            if node.submitted[asked] != content:
+            if self.was(own, asked, content) is False:
                 self.fault("numbers", own, f"{' '.join(words)}: {node.submitted[asked]} before")
             return
-        next_at, most = max(node.submitted, default=0) + 1, self.most(own) + 1
+        next_at, most = node.least() + 1, node.most() + 1
         is_due = next_at <= at <= most or asked in node.lost_numbers
         if int(replica) != own or at in node.submitted or not is_due:
             self.fault("ids", own, f"{replica}.{number} where {next_at} to {most} is next")
+        is_new = asked is None or not node.lost and asked not in node.lost_numbers
         node.submitted[at] = content
         node.lost_numbers.discard(at)
         if asked is None:
             node.lost.clear()
-        self.content(0, (own, at, content))
-
-    def most(self, own: int) -> int:
-        """How many submissions a node may have taken."""
-        node = self.nodes[own]
-        return max([*node.submitted, *node.lost_numbers], default=0) + len(node.lost)
+        if not is_take(content):
+            self.content(0, (own, at, content))
+        elif is_new and node.exact:
+            self.content(0, (own, at, self.remove_of(content, node.view)))
 
     def note_proposed(self, own: int, number: str) -> None:
-        words = self.answered_line(own, "decide")
-        node = self.nodes[own]
-        if words[2] != number or int(number) in node.proposed or int(number) >= self.group.commits:
-            self.fault("proposed", own, " ".join(words))
-        node.proposed.add(int(number))
-        node.kills_since[int(number)] = 0
-        self.proposals[int(number), own] = [int(words[3])]
+        """A proposal is made, or is told once more, and then what came of it."""
+        words, node = self.answered_line(own, "decide"), self.nodes[own]
+        at, value = int(words[2]), int(words[3])
+        if words[2] != number or node.proposed.get(at, value) != value or at >= self.group.commits:
+            self.fault("proposed", own, f"{' '.join(words)}: {node.proposed.get(at)} before")
+        node.returns = at if at in node.proposed and (at, own) in self.outcomes else None
+        node.proposed[at] = value
+        node.kills_since[at] = 0
+        self.proposals[at, own] = {value}
 
     def note_refused(self, own: int, line: str, name: str) -> None:
         node = self.nodes[own]
@@ -257,40 +303,119 @@ class Checker:
             return self.fault("refused", own, f"line {line}, {name}: {len(node.awaited)} without an answer")
         _, words = node.awaited.popleft()
         self.handled(own, int(line))
-        count, asked = self.most(own), asked_number(words) or 0
-        just = {
-            "Full": words[0] == "submit" and count >= self.group.cap,
-            "Stale": 0 < asked <= count and node.submitted.get(asked) != " ".join(words[2:]),
-            "Gap": asked > max(node.submitted, default=0) + 1,
-            "NoSuchCommit": words[0] == "decide" and int(words[2]) >= self.group.commits,
-            "AlreadyProposed": words[0] == "decide" and self.decides[int(words[2]), own] > 1,
-            "NoSuchObject": words[0] == "ask" and int(words[2]) not in (COUNTER, REGISTER, SET),
-        }
-        if not just.get(name):
+        node.refused += 1
+        if not getattr(self, f"is_just_{words[0]}")(own, name, words):
             self.fault("refused", own, f"{' '.join(words)}: {name}")
-        may_be = self.proposals[int(words[2]), own] if words[0] == "decide" else []
-        if may_be and int(words[3]) in may_be:
-            may_be.remove(int(words[3]))
+
+    def is_just_submit(self, own: int, name: str, words: list[str]) -> bool:
+        """Whether a submission is refused rightly."""
+        node, count, asked = self.nodes[own], self.nodes[own].most(), asked_number(words) or 0
+        if why := unfit(int(words[2]), words[3]):
+            return name == why
+        just = {
+            "Full": count >= self.group.cap,
+            "Stale": 0 < asked <= count and self.was(own, asked, " ".join(words[2:])) is not True,
+            "Gap": asked > node.least() + 1,
+        }
+        return just.get(name, False)
+
+    def is_just_decide(self, own: int, name: str, words: list[str]) -> bool:
+        """The same of a proposal: where one was made before, that had another value."""
+        number, value = int(words[2]), int(words[3])
+        if name == "AlreadyProposed":
+            self.proposals[number, own].discard(value)
+            return self.nodes[own].proposed.get(number) != value and bool(self.proposals[number, own])
+        return name == "NoSuchCommit" and number >= self.group.commits
+
+    def is_just_ask(self, own: int, name: str, words: list[str]) -> bool:
+        """The same of a question."""
+        node, (words, after) = self.nodes[own], apart(words)
+        is_seen = not node.exact or not after or has_update(node.view, after)
+        return name == "NoSuchObject" and int(words[2]) not in TAKES and words[3] != "updates" and is_seen
+
+    def is_just_status(self, *_: object) -> bool:
+        return False
 
     def note_answered(self, own: int, number: str, text: str, *_: str) -> None:
-        words, node = self.answered_line(own, "ask"), self.nodes[own]
+        node, (words, after) = self.nodes[own], apart(self.answered_line(own, "ask"))
         asked = " ".join(words[2:])
         if words[2] != number:
             self.fault("answers", own, f"{asked}: of object {number}")
-        if node.exact and text != self.value(node.view, int(words[2]), words[3:]):
+        if after and node.exact and not has_update(node.view, after):
+            self.fault("waiting", own, f"{asked} at {after} over {node.view}: {text}")
+        if node.exact and text != answer(int(words[2]), words[3:], self.found(node.view, words[2])):
             self.fault("value", own, f"{asked} over {node.view}: {text}")
         if self.last:
             self.answers[own, asked].add(text)
 
-    def value(self, view: Counts, number: int, query: list[str]) -> str:
-        """What an object answers over a view."""
-        found: list[Named] = []
-        for replica, count in enumerate(view):
-            for at in range(1, count + 1):
-                owner, *op = self.contents.get((0, replica, at), "0 mark").split(" ")
-                if owner == str(number):
-                    found.append(((replica, at), op))
-        return answer(number, query, found)
+    def note_waiting(self, own: int, update: str, *_: str) -> None:
+        node, (words, after) = self.nodes[own], apart(self.answered_line(own, "ask"))
+        if after != update or has_update(node.view, after):
+            self.fault("waiting", own, f"{' '.join(words)} at {after or 'nothing'} over {node.view}: for {update}")
+
+    def found(self, view: Counts, number: str) -> list[Named]:
+        """The updates of an object in a view."""
+        ids = [(replica, at) for replica, count in enumerate(view) for at in range(1, count + 1)]
+        named = [(it, self.contents.get((0, *it), "0 mark").split(" ")) for it in ids]
+        return [(it, op) for it, (owner, *op) in named if owner == number]
+
+    # What takes an element out
+
+    def remove_of(self, content: str, view: Counts) -> str:
+        """What a take does over a view."""
+        number, _, element = content.split(" ")
+        return " ".join([number, "remove", *tags_of(self.found(view, number), int(element))])
+
+    def is_of(self, content: str, text: str, view: Counts) -> bool:
+        """Whether an update may be what these words submitted: a take names what a view has that puts its element."""
+        if not is_take(content):
+            return content == text
+        number, _, element = content.split(" ")
+        owner, word, *tags = text.split(" ")
+        puts = {f"{replica}.{at}" for (replica, at), op in self.found(view, number) if op == ["put", element]}
+        return (owner, word) == (number, "remove") and puts.issuperset(tags)
+
+    def was(self, own: int, number: int, content: str) -> bool | None:
+        """Whether a node's submission under a number is what these words submit; nothing, where that is not known."""
+        node, text = self.nodes[own], self.contents.get((0, own, number))
+        if text is None:
+            return True if node.submitted.get(number) == content else None
+        return self.is_of(content, text, node.view) or (None if is_take(content) and not node.exact else False)
+
+    # How a node stands
+
+    def note_status(self, own: int, *values: str) -> None:
+        node, it = self.nodes[own], read_standing(values)
+        line = node.awaited[0][0] if node.awaited else 0
+        self.answered_line(own, "status")
+        self.progress(own, it.has, it.view)
+        came = Counter(verb for at, verb in node.came if at <= line)
+        last = max((ballot for replica, instance, ballot in self.offered if (replica, instance) == (own, 0)), default=0)
+        offered = self.offered.get((own, 0, it.ballot), NOTHING)[own]
+        for what, is_so in {
+            "submitted": node.least() <= it.submitted <= node.most(),
+            "ballot": it.ballot >= max(last, 1) if it.is_open else it.ballot == it.waiting == 0,
+            "waiting": it.waiting <= it.submitted and offered in (0, it.submitted - it.waiting),
+            "peer": self.are_known(own, it),
+            "in": all(it.received[verb] == came[verb] for verb in FORMS),
+            "out": all(it.sent[verb] == node.sent[verb] for verb in FORMS),
+            "refused": it.refused == node.refused,
+            "written, syncs": within(node.journal, it.journal) and (it.journal[0] > 0) == (it.journal[1] > 0),
+        }.items():
+            if not is_so:
+                self.fault("stands", own, f"{what}: {it}")
+        node.counted, node.journal = it.submitted, it.journal
+        node.lost.clear()
+        node.lost_numbers = {number for number in node.lost_numbers if number <= it.submitted}
+
+    def are_known(self, own: int, it: Standing) -> bool:
+        """Whether of all others just so much is known as the node was told."""
+        hearing, others = self.nodes[own].hearing, [peer for peer in range(self.group.replicas) if peer != own]
+        return list(it.peers) == others and all(
+            within(hearing.must[peer].has, has) and within(has, hearing.may[peer].has)
+            and within(hearing.must[peer].view, view) and within(view, hearing.may[peer].view)
+            for peer, (has, view) in it.peers.items()
+        )
 
     # What a node learns
 
@@ -332,7 +457,7 @@ class Checker:
 
     def values(self, number: int) -> set[int]:
         """What may have been proposed to an object."""
-        return {value for (at, _), values in self.proposals.items() if at == number for value in values}
+        return set().union(*(values for (at, _), values in self.proposals.items() if at == number))
 
     # What a node sends
 
@@ -342,7 +467,8 @@ class Checker:
         wrong = wrong or it.verb != "known" and it.ballot == 0 or any(it.has[it.group :] + it.view[it.group :])
         if wrong or any(it.counts[it.group :]):
             raise Malformed("not a message of this node")
-        self.progress(own, it)
+        self.nodes[own].sent[it.verb] += 1
+        self.progress(own, it.has, it.view, it.verb in ("yes", "no") and it.instance == 0)
         for update in it.updates:
             self.content(it.instance, update)
         if it.verb == "known":
@@ -355,15 +481,14 @@ class Checker:
         else:
             self.reply(own, it)
 
-    def progress(self, own: int, it: Message) -> None:
+    def progress(self, own: int, has: Counts, view: Counts, is_reply: bool = False) -> None:
         """How far a node says that it is: it never shrinks, and is what it has said of its steps before."""
         node = self.nodes[own]
-        is_reply = it.verb in ("yes", "no") and it.instance == 0
-        if not within(node.has, it.has) or node.firm and not is_reply and it.has != node.has:
-            self.fault("progress", own, f"has {it.has} after {node.has}")
-        if not within(node.view, it.view) or node.exact and it.view != node.view:
-            self.fault("progress", own, f"view {it.view} after {node.view}")
-        node.has, node.view = larger(node.has, it.has), larger(node.view, it.view)
+        if not within(node.has, has) or node.firm and not is_reply and has != node.has:
+            self.fault("progress", own, f"has {has} after {node.has}")
+        if not within(node.view, view) or node.exact and view != node.view:
+            self.fault("progress", own, f"view {view} after {node.view}")
+        node.has, node.view = larger(node.has, has), larger(node.view, view)
         node.firm = node.exact = True
 
     def tell(self, own: int, it: Message) -> None:
@@ -412,6 +537,8 @@ class Checker:
     def content(self, instance: int, update: tuple[int, int, str]) -> None:
         replica, number, text = update
         known = self.contents.setdefault((instance, replica, number), text)
+        if instance == 0:
+            self.views.setdefault((replica, number), self.nodes[replica].view)
         if known != text:
             self.fault("content", replica, f"instance {instance}, {replica}.{number}: {text}, and {known} before")
 
@@ -446,8 +573,9 @@ class Checker:
                 self.fault("lost", own, f"the submissions {sorted(set(missing))} are not in all views")
         for (instance, replica, number), text in self.contents.items():
             if instance == 0:
-                node = self.nodes[replica]
-                just = node.submitted.get(number) == text or number not in node.submitted and text in node.ever_lost
+                node, view = self.nodes[replica], self.views[replica, number]
+                asked = [node.submitted[number]] if number in node.submitted else node.ever_lost
+                just = any(self.is_of(it, text, view) for it in asked)
             else:
                 _, verb, value = text.split(" ")
                 just = number == 1 and int(value) in self.proposals[(instance - 1) // 2, replica]

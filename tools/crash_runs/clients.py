@@ -26,8 +26,12 @@ class Client:
         return [self.line(*it) for it in found if it[0] not in answered]
 
     def strange(self, draw: random.Random, answered: dict[int, str]) -> list[str]:
-        """What was answered once more, or its number with something else; or a number that is too large."""
+        """What was answered once more, or its number with something else; what its object does not take; or a number
+        that is too large."""
         if answered and draw.random() < 0.9:
             number = draw.choice([*answered])
-            return [self.line(number, draw.choice((answered[number], answered[number], "1 inc 77")))]
+            others = ("1 inc 77", draw.choice(("3 take 1", "3 take 77", "9 mark", "3 remove")))
+            return [self.line(number, draw.choice((*[answered[number]] * 4, *others)))]
+        if draw.random() < 0.5:
+            return [self.line(len(self.sent) + 1, draw.choice(("9 mark", "1 take 1")))]
         return [self.line(len(self.sent) + draw.randint(20, 99), "1 inc 77")]

@@ -23,8 +23,16 @@ HEADS = {
 }
 WORD = re.compile(r"0|(?:(?:0|[1-9][0-9]*),){0,7}[1-9][0-9]*")
 TOTAL = "total (?:0|-?[1-9][0-9]*)"
-ANSWER = rf"{TOTAL}|largest {NUMBER}|(?:has|reached) (?:yes|no)|size {NUMBER}|items \[[0-9 ]*\]|foreign"
 COUNTS = rf"((?: {NUMBER}){{{REPLICAS}}})"
+ANSWER = rf"{TOTAL}|largest {NUMBER}|(?:has|reached) (?:yes|no)|size {NUMBER}|items \[[0-9 ]*\]|foreign"
+ANSWER += rf"|tags{TAGS}|updates{COUNTS}"
+# How a node stands: how far it is and its proposer, what it knows of its peers, and what its process counted.
+FAR = " has ([0-9,]+) view ([0-9,]+)"
+PEER = re.compile(f" peer ([0-7]){FAR}")
+PEERS = "((?: peer [0-7] has [0-9,]+ view [0-9,]+)*)"
+TALLY = "".join(f" {way}" + "".join(f" {it} {NUMBER}" for it in FORMS) for way in ("in", "out"))
+TALLY += "".join(f" {it} {NUMBER}" for it in ("refused", "written", "syncs"))
+STANDS = rf"version [0-9.]+{FAR} submitted {NUMBER} waiting {NUMBER} ballot {NUMBER} (open|shut){PEERS}{TALLY}"
 NOTES = {
     "submitted": re.compile(rf"submitted {NUMBER}\.{NUMBER}"),
     "proposed": re.compile(rf"proposed {NUMBER}"),
@@ -32,6 +40,8 @@ NOTES = {
     "view": re.compile(rf"view{COUNTS}"),
     "outcome": re.compile(rf"outcome {NUMBER} (commit|adopt) {NUMBER}"),
     "answered": re.compile(rf"answered {NUMBER} ({ANSWER})"),
+    "waiting": re.compile(rf"waiting ({NUMBER}\.{NUMBER})"),
+    "status": re.compile(f"status {STANDS}"),
     "refused": re.compile(rf"refused {NUMBER} ([A-Za-z]+)"),
 }
 # Lines that say no call, and what is told of each.
@@ -43,6 +53,13 @@ FAULTY = {
     "submit 0.0 1 inc 5": "BadNumber",
     "submit 1.4294967296 1 inc 5": "BadNumber",
     "submit 0.1 1 incr 5": "BadLine",
+    "submit 0 3 take": "BadLine",
+    "submit 0.0 3 take 7": "BadLine",
+    "ask 0 3 tags 7 at": "BadLine",
+    "ask 0 3 tags 07": "BadLine",
+    "ask 0 1 total at 0.0": "BadLine",
+    "status": "BadLine",
+    "status 0 at 0.1": "BadLine",
     "deliver 0": "BadLine",
     "tell 3 0 1 0 1;0.2 1 inc 5": "BadLine",
     " tick": "BadLine",
@@ -89,6 +106,24 @@ class Message:
         return tuple(found)
 
 
+@dataclass(frozen=True)
+class Standing:
+    """How a node says that it stands: how far it is and its proposer, how far its peers are, and what its process
+    counted: messages in and out by their kinds, refusals, and bytes and syncs of the journal."""
+
+    has: Counts
+    view: Counts
+    submitted: int
+    waiting: int
+    ballot: int
+    is_open: bool
+    peers: dict[int, tuple[Counts, Counts]]
+    received: dict[str, int]
+    sent: dict[str, int]
+    refused: int
+    journal: Counts
+
+
 def read_counts(text: str) -> Counts:
     """Numbers of updates of replicas 0 to 7."""
     return tuple(int(it) for it in text.split())
@@ -130,6 +165,22 @@ def read_message(line: str) -> Message:
     group, sender, to, instance, ballot = (*(int(it) for it in match.groups()[:count]), 0, 0)[:5]
     has, view, base = (*(read_word(it) for it in match.groups()[count:]), NOTHING)[:3]
     return Message(verb, group, sender, to, instance, ballot, has, view, base, read_updates(base, parts))
+
+
+def read_standing(values: tuple[str, ...]) -> Standing:
+    """How a node stands, by what follows the word of its note."""
+    has, view, submitted, waiting, ballot, word, rest, *counted = values
+    peers = {int(peer): (read_word(one), read_word(other)) for peer, one, other in PEER.findall(rest)}
+    tally, kinds = [int(it) for it in counted], len(FORMS)
+    received, sent = dict(zip(FORMS, tally)), dict(zip(FORMS, tally[kinds:]))
+    refused, *journal = tally[2 * kinds:]
+    numbers = int(submitted), int(waiting), int(ballot), word == "open"
+    return Standing(read_word(has), read_word(view), *numbers, peers, received, sent, refused, tuple(journal))
+
+
+def apart(words: list[str]) -> tuple[list[str], str]:
+    """The words of a question without those for what it waits, and the id of that update, where it waits for one."""
+    return (words[:-2], words[-1]) if words[-2] == "at" else (words, "")
 
 
 def read_note(line: str, own: int) -> tuple[str, tuple[str, ...]]:

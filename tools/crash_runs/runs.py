@@ -18,6 +18,9 @@ LOST = REPEATED = 0.1
 # Of the kills, how many are losses of power, and behind how many a bit flips.
 POWER, FLIPPED = 0.35, 0.2
 QUESTIONS = ("1 total", "1 atleast 7", "2 largest", "3 size", "3 items", "3 has 2", "1 items", "2 total")
+QUESTIONS += ("3 tags 1", "3 tags 2", "1 tags 1", "1 updates", "3 updates")
+# What no shelf has.
+ELSEWHERE = ("8 total", "8 tags 1", "8 updates")
 
 
 def drawn_group(draw: random.Random, nodes: int | None) -> Group:
@@ -69,33 +72,48 @@ class Run:
         work = [(own, "submit") for own in range(self.group.replicas) for _ in range(self.draw.randint(1, 7))]
         work += [(own, "ask") for own in range(self.group.replicas) for _ in range(3)]
         for number in range(self.group.commits):
-            work += [(own, f"decide {own} {number} {self.draw.randint(1, 2)}") for own in range(self.group.replicas)]
+            owns = range(self.group.replicas)
+            proposals = [(own, f"decide {own} {number} {self.draw.randint(1, 2)}") for own in owns]
+            work += proposals + [it for it in proposals if self.draw.random() < 0.4]
         if self.draw.random() < 0.5:
             work += [(own, f"decide {own} {self.draw.randint(0, 2)} 3") for own in range(self.group.replicas)]
         self.draw.shuffle(work)
         return work
 
-    def drawn_op(self) -> str:
-        word = self.draw.choice(("inc", "inc", "dec", "raise", "put", "put", "remove", "mark"))
-        number = {"inc": 1, "dec": 1, "raise": 2, "put": 3, "remove": 3, "mark": 9}[word]
-        number = number if self.draw.random() < 0.95 else self.draw.choice((0, 1, 2, 3, 65535))
+    def drawn_op(self, strays: float) -> str:
+        """What is submitted; so many strays go to any object."""
+        word = self.draw.choice(("inc", "inc", "dec", "raise", "put", "put", "put", "remove", "take", "take", "mark"))
+        number = {"inc": 1, "dec": 1, "raise": 2, "mark": self.draw.randint(1, 3)}.get(word, 3)
+        number = number if self.draw.random() >= strays else self.draw.choice((0, 1, 2, 3, 65535))
         if word == "remove":
             ids = [f"{own}.{at}" for own, node in enumerate(self.checker.nodes) for at in [*node.submitted, 1]]
             tags = self.draw.sample(ids, min(len(ids), self.draw.randint(0, 4)))
             return " ".join([str(number), word, *sorted(set(tags))])
         largest = 2**32 - 1 if word in ("inc", "dec") else 2**64 - 1
-        value = self.draw.randint(0, 5) if self.draw.random() < 0.95 else largest
+        often = self.draw.choice((1, 2)) if word in ("put", "take") else self.draw.randint(0, 5)
+        value = often if self.draw.random() < 0.95 else largest
         return f"{number} {word}" if word == "mark" else f"{number} {word} {value}"
 
     def drawn_line(self, own: int, what: str) -> str:
         """A line of the workload, for this node."""
         if what == "submit" and own in self.clients:
-            what = self.clients[own].new(self.drawn_op())
+            what = self.clients[own].new(self.drawn_op(0))
         elif what == "submit":
-            what = f"submit {own} {self.drawn_op()}"
+            what = f"submit {own} {self.drawn_op(0.05)}"
         elif what == "ask":
-            what = f"ask {own} {self.draw.choice((*QUESTIONS, '8 total'))}"
+            what = self.drawn_question(own)
         return what + self.drawn_name()
+
+    def drawn_question(self, own: int) -> str:
+        """How a node stands; or a question, which may wait for what this one or another submitted last, or is to."""
+        if self.draw.random() < 0.2:
+            return f"status {own}"
+        question = f"ask {own} {self.draw.choice((*QUESTIONS, self.draw.choice(ELSEWHERE)))}"
+        if self.draw.random() < 0.4:
+            return question
+        of = self.draw.choice((own, self.draw.randrange(self.group.replicas)))
+        last = max(self.checker.nodes[of].submitted, default=1)
+        return f"{question} at {of}.{last + (self.draw.random() < 0.2)}"
 
     def drawn_name(self) -> str:
         """The name of a request behind a line, or none."""
@@ -110,8 +128,9 @@ class Run:
         far, group = "has 99,99,99 view 99,99,99", self.group.replicas
         elsewhere += [f"yes {group % 8 + 1} {other} {own} 0 1 {far}", f"known {group % 8 + 1} {other} {own} {far}"]
         elsewhere += [f"ask {other} 1 total", f"submit {other}.1 1 inc 7", f"known {group} {other} {own} has 0 view 0"]
+        elsewhere += [f"ask {other} 3 tags 1 at {own}.1", f"submit {other} 3 take 1", f"status {other}"]
         elsewhere += self.draw.sample(mail, min(3, len(mail)))
-        faulty = [it + self.drawn_name() if it[:3] in ("sub", "tic", "del") else it for it in FAULTY]
+        faulty = [it + self.drawn_name() if it[:3] in ("sub", "tic", "del", "ask", "sta") else it for it in FAULTY]
         return self.draw.choice((*elsewhere, *faulty))
 
     # What happens
@@ -156,6 +175,7 @@ class Run:
         if node.process:
             lines += self.taken_work(node.own, 1) if self.draw.random() < 0.3 else []
             lines += [self.passed_line(node.own)] if self.draw.random() < 0.1 else []
+            lines += [self.drawn_line(node.own, "ask")] if self.draw.random() < 0.1 else []
             lines += ["tick"] if self.draw.random() < 0.02 else []
             self.post(node.give(lines))
 
@@ -206,7 +226,8 @@ class Run:
                 node.start()
             # One goes on until it is refused, where the cap is small.
             times = self.group.cap + 1 if node.own == 1 and self.group.cap < 100 else 1
-            self.post(node.give([*self.sent_again(node.own), *[f"submit {node.own} 9 mark"] * times]))
+            last = self.draw.choice(("1 mark", "3 take 1", "3 take 2"))
+            self.post(node.give([*self.sent_again(node.own), *[f"submit {node.own} {last}"] * times]))
         for _ in range(ROUNDS):
             while self.pool:
                 own = receiver(self.pool[0])
@@ -238,8 +259,13 @@ class Run:
         node.start()
 
     def ask_all(self) -> None:
+        """Asks all, behind what was submitted last; how each stands; and proposes once more what each has proposed."""
+        made = [max(it.submitted, default=1) for it in self.checker.nodes]
         for node in self.nodes:
-            node.give([f"ask {node.own} {it}" for it in QUESTIONS])
+            behind = [f"{at}.{made[at]}" for at in (place % len(made) for place in range(len(QUESTIONS)))]
+            node.give([f"ask {node.own} {it} at {update}" for it, update in zip(QUESTIONS, behind)])
+            again = [f"decide {node.own} {at} {value}" for at, value in self.checker.nodes[node.own].proposed.items()]
+            node.give([it + self.drawn_name() for it in [*again, f"status {node.own}"]])
             self.post(node.give([]))
 
     def play(self) -> None:
