@@ -1,5 +1,6 @@
 -- Lines that were taken, one after another, as calls of a node.
-use Rattle.std.proofs.Common.{◌≡◌, List, [], ◌∷◌, take, drop, take-append-drop, Contains, Option, Some, None, option_map, option_and_then, refl, sym, ap, subst, ◌∙◌, arith}
+use Rattle.std.proofs.Common.{◌≡◌, List, [], ◌∷◌, take, drop, take-append-drop, Contains, Option, Some, None}
+use Rattle.std.proofs.Common.{option_map, option_and_then, refl, sym, ap, subst, ◌∙◌, arith}
 use Rattle.std.proofs.lemmas.Option.{none-some, same_Some}
 use Rattle.std.proofs.lemmas.List.Elements.{Contains-append_left, Contains-append_right}
 use Rattle.la_journal.specs.Machine.{steps, steps_from}

@@ -1,5 +1,5 @@
 -- Whether an operation is one of an object's, by what the object answers.
-use Rattle.std.proofs.Common.{◌≡◌, ℕ, Bool, true, false, not, cond, List, Option, Some, None, option_map, refl, sym, ap}
+use Rattle.std.proofs.Common.{◌≡◌, Bool, true, false, not, cond, List, Option, Some, None, option_map, refl, sym, ap}
 use Rattle.std.proofs.Common.{subst, ◌∙◌}
 use Rattle.std.proofs.lemmas.Bool.{true≢false, false≢true}
 use Rattle.std.proofs.lemmas.Option.{none-some, same_Some}
@@ -13,7 +13,6 @@ use Rattle.la_object.specs.declared.query.Answer.TheVariants as answer
 use Rattle.la_object.specs.declared.query.Query.{Query}
 use Rattle.la_object.specs.declared.query.Query.TheVariants as query
 use Rattle.la_object.specs.Objects.{value}
-use Rattle.la_serve.specs.declared.said.Why.{Why}
 use Rattle.la_serve.specs.declared.said.Why.TheVariants as why
 use Rattle.la_serve.specs.Said.{object_takes, query_for, unfit}
 
@@ -23,7 +22,8 @@ is_foreign _ = false
 
 module _ (us : List Update) where
   -- what an object of a kind answers to the query for an operation
-  by_query : (k : Kind) (does : Op) (q : Query) → query_for does ≡ Some q → is_foreign (value k us q) ≡ not (object_takes k does)
+  by_query : (k : Kind) (does : Op) (q : Query) → query_for does ≡ Some q
+      → is_foreign (value k us q) ≡ not (object_takes k does)
   by_query k (op.Inc by) q is =
       subst (λ x. is_foreign (value k us x) ≡ not (object_takes k (op.Inc by))) (same_Some query.Total q is) (total k)
     where
@@ -39,7 +39,8 @@ module _ (us : List Update) where
       total kind.MaxRegister = refl
       total kind.OrSet = refl
   by_query k (op.Raise to) q is =
-      subst (λ x. is_foreign (value k us x) ≡ not (object_takes k (op.Raise to))) (same_Some query.Largest q is) (largest k)
+      subst (λ x. is_foreign (value k us x) ≡ not (object_takes k (op.Raise to)))
+      (same_Some query.Largest q is) (largest k)
     where
       largest : (k : Kind) → is_foreign (value k us query.Largest) ≡ not (object_takes k (op.Raise to))
       largest kind.Counter = refl
@@ -53,7 +54,8 @@ module _ (us : List Update) where
       size kind.MaxRegister = refl
       size kind.OrSet = refl
   by_query k (op.Remove tags) q is =
-      subst (λ x. is_foreign (value k us x) ≡ not (object_takes k (op.Remove tags))) (same_Some query.Size q is) (size k)
+      subst (λ x. is_foreign (value k us x) ≡ not (object_takes k (op.Remove tags)))
+      (same_Some query.Size q is) (size k)
     where
       size : (k : Kind) → is_foreign (value k us query.Size) ≡ not (object_takes k (op.Remove tags))
       size kind.Counter = refl

@@ -1,6 +1,6 @@
 -- A line's turn, by what became of it.
 use Rattle.std.proofs.Common.{◌≡◌, ℕ, true, false, List, [], codes, refl, sym, subst, ap, ◌∙◌, inl, inr}
-use Rattle.std.proofs.Common.{append-nil, Option, Some, None, Result, OnOk, IfErr}
+use Rattle.std.proofs.Common.{append-nil, Option, Some, Result, OnOk, IfErr}
 use Rattle.std.specs.Io.KnownBytes.{Appends}
 use Rattle.std.proofs.KnownBytes.{Appends-nil}
 use Rattle.la_io.specs.Limits.{is_too_long}
@@ -62,7 +62,8 @@ module _ {E : Type 0} (heard : E → Option (List ℕ)) (refuses : E → List �
       (refl, note_turn before.objects before.state k line le is) refl refl (Appends-nil before.out))
 
   -- it has a fault
-  pub fault_taken : (k : ℕ) (hears : HeardLine) (before : Io) (e2 : E) (f : LineFault) → IsInputRefusal hears.call (Fault f)
+  pub fault_taken : (k : ℕ) (hears : HeardLine) (before : Io) (e2 : E) (f : LineFault)
+      → IsInputRefusal hears.call (Fault f)
       → TellsLine heard refuses e1 e2 (line_fault_line k f hears.name)
       → TakesLine (OfHeard hears k) (TellsAll heard refuses e1 e2) before before
   fault_taken k hears before e2 f refusal t = record {

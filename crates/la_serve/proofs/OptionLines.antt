@@ -93,35 +93,227 @@ no e = absurd (true≢false (sym e))
 
 replicas_alone : AllOne replicas_rule rules
 unfolding clap_on_literals
-replicas_alone = (inr (refl, refl, λ e. refl), (inr (refl, refl, λ e. no e), (inr (refl, refl, λ e. no e), (inr (refl, refl, λ e. no e), (inr (refl, refl, λ e. no e), (inr (refl, refl, λ e. no e), (inr (refl, refl, λ e. no e), (inr (refl, refl, λ e. no e), (inr (refl, refl, λ e. no e), (inl refl, (inl refl, tt)))))))))))
+replicas_alone = (
+  inr (refl, refl, λ e. refl),
+  (
+    inr (refl, refl, λ e. no e),
+    (
+      inr (refl, refl, λ e. no e),
+      (
+        inr (refl, refl, λ e. no e),
+        (
+          inr (refl, refl, λ e. no e),
+          (
+            inr (refl, refl, λ e. no e),
+            (
+              inr (refl, refl, λ e. no e),
+              (
+                inr (refl, refl, λ e. no e),
+                (inr (refl, refl, λ e. no e), (inl refl, (inl refl, tt))),
+              ),
+            ),
+          ),
+        ),
+      ),
+    ),
+  ),
+)
 
 own_alone : AllOne own_rule rules
 unfolding clap_on_literals
-own_alone = (inr (refl, refl, λ e. no e), (inr (refl, refl, λ e. refl), (inr (refl, refl, λ e. no e), (inr (refl, refl, λ e. no e), (inr (refl, refl, λ e. no e), (inr (refl, refl, λ e. no e), (inr (refl, refl, λ e. no e), (inr (refl, refl, λ e. no e), (inr (refl, refl, λ e. no e), (inl refl, (inl refl, tt)))))))))))
+own_alone = (
+  inr (refl, refl, λ e. no e),
+  (
+    inr (refl, refl, λ e. refl),
+    (
+      inr (refl, refl, λ e. no e),
+      (
+        inr (refl, refl, λ e. no e),
+        (
+          inr (refl, refl, λ e. no e),
+          (
+            inr (refl, refl, λ e. no e),
+            (
+              inr (refl, refl, λ e. no e),
+              (
+                inr (refl, refl, λ e. no e),
+                (inr (refl, refl, λ e. no e), (inl refl, (inl refl, tt))),
+              ),
+            ),
+          ),
+        ),
+      ),
+    ),
+  ),
+)
 
 commits_alone : AllOne commits_rule rules
 unfolding clap_on_literals
-commits_alone = (inr (refl, refl, λ e. no e), (inr (refl, refl, λ e. no e), (inr (refl, refl, λ e. refl), (inr (refl, refl, λ e. no e), (inr (refl, refl, λ e. no e), (inr (refl, refl, λ e. no e), (inr (refl, refl, λ e. no e), (inr (refl, refl, λ e. no e), (inr (refl, refl, λ e. no e), (inl refl, (inl refl, tt)))))))))))
+commits_alone = (
+  inr (refl, refl, λ e. no e),
+  (
+    inr (refl, refl, λ e. no e),
+    (
+      inr (refl, refl, λ e. refl),
+      (
+        inr (refl, refl, λ e. no e),
+        (
+          inr (refl, refl, λ e. no e),
+          (
+            inr (refl, refl, λ e. no e),
+            (
+              inr (refl, refl, λ e. no e),
+              (
+                inr (refl, refl, λ e. no e),
+                (inr (refl, refl, λ e. no e), (inl refl, (inl refl, tt))),
+              ),
+            ),
+          ),
+        ),
+      ),
+    ),
+  ),
+)
 
 cap_alone : AllOne cap_rule rules
 unfolding clap_on_literals
-cap_alone = (inr (refl, refl, λ e. no e), (inr (refl, refl, λ e. no e), (inr (refl, refl, λ e. no e), (inr (refl, refl, λ e. refl), (inr (refl, refl, λ e. no e), (inr (refl, refl, λ e. no e), (inr (refl, refl, λ e. no e), (inr (refl, refl, λ e. no e), (inr (refl, refl, λ e. no e), (inl refl, (inl refl, tt)))))))))))
+cap_alone = (
+  inr (refl, refl, λ e. no e),
+  (
+    inr (refl, refl, λ e. no e),
+    (
+      inr (refl, refl, λ e. no e),
+      (
+        inr (refl, refl, λ e. refl),
+        (
+          inr (refl, refl, λ e. no e),
+          (
+            inr (refl, refl, λ e. no e),
+            (
+              inr (refl, refl, λ e. no e),
+              (
+                inr (refl, refl, λ e. no e),
+                (inr (refl, refl, λ e. no e), (inl refl, (inl refl, tt))),
+              ),
+            ),
+          ),
+        ),
+      ),
+    ),
+  ),
+)
 
 tick_alone : AllOne tick_rule rules
 unfolding clap_on_literals
-tick_alone = (inr (refl, refl, λ e. no e), (inr (refl, refl, λ e. no e), (inr (refl, refl, λ e. no e), (inr (refl, refl, λ e. no e), (inr (refl, refl, λ e. refl), (inr (refl, refl, λ e. no e), (inr (refl, refl, λ e. no e), (inr (refl, refl, λ e. no e), (inr (refl, refl, λ e. no e), (inl refl, (inl refl, tt)))))))))))
+tick_alone = (
+  inr (refl, refl, λ e. no e),
+  (
+    inr (refl, refl, λ e. no e),
+    (
+      inr (refl, refl, λ e. no e),
+      (
+        inr (refl, refl, λ e. no e),
+        (
+          inr (refl, refl, λ e. refl),
+          (
+            inr (refl, refl, λ e. no e),
+            (
+              inr (refl, refl, λ e. no e),
+              (
+                inr (refl, refl, λ e. no e),
+                (inr (refl, refl, λ e. no e), (inl refl, (inl refl, tt))),
+              ),
+            ),
+          ),
+        ),
+      ),
+    ),
+  ),
+)
 
 compact_alone : AllOne compact_rule rules
 unfolding clap_on_literals
-compact_alone = (inr (refl, refl, λ e. no e), (inr (refl, refl, λ e. no e), (inr (refl, refl, λ e. no e), (inr (refl, refl, λ e. no e), (inr (refl, refl, λ e. no e), (inr (refl, refl, λ e. refl), (inr (refl, refl, λ e. no e), (inr (refl, refl, λ e. no e), (inr (refl, refl, λ e. no e), (inl refl, (inl refl, tt)))))))))))
+compact_alone = (
+  inr (refl, refl, λ e. no e),
+  (
+    inr (refl, refl, λ e. no e),
+    (
+      inr (refl, refl, λ e. no e),
+      (
+        inr (refl, refl, λ e. no e),
+        (
+          inr (refl, refl, λ e. no e),
+          (
+            inr (refl, refl, λ e. refl),
+            (
+              inr (refl, refl, λ e. no e),
+              (
+                inr (refl, refl, λ e. no e),
+                (inr (refl, refl, λ e. no e), (inl refl, (inl refl, tt))),
+              ),
+            ),
+          ),
+        ),
+      ),
+    ),
+  ),
+)
 
 objects_alone : AllOne objects_rule rules
 unfolding clap_on_literals
-objects_alone = (inr (refl, refl, λ e. no e), (inr (refl, refl, λ e. no e), (inr (refl, refl, λ e. no e), (inr (refl, refl, λ e. no e), (inr (refl, refl, λ e. no e), (inr (refl, refl, λ e. no e), (inr (refl, refl, λ e. refl), (inr (refl, refl, λ e. no e), (inr (refl, refl, λ e. no e), (inl refl, (inl refl, tt)))))))))))
+objects_alone = (
+  inr (refl, refl, λ e. no e),
+  (
+    inr (refl, refl, λ e. no e),
+    (
+      inr (refl, refl, λ e. no e),
+      (
+        inr (refl, refl, λ e. no e),
+        (
+          inr (refl, refl, λ e. no e),
+          (
+            inr (refl, refl, λ e. no e),
+            (
+              inr (refl, refl, λ e. refl),
+              (
+                inr (refl, refl, λ e. no e),
+                (inr (refl, refl, λ e. no e), (inl refl, (inl refl, tt))),
+              ),
+            ),
+          ),
+        ),
+      ),
+    ),
+  ),
+)
 
 journal_alone : AllOne journal_rule rules
 unfolding clap_on_literals
-journal_alone = (inr (refl, refl, λ e. no e), (inr (refl, refl, λ e. no e), (inr (refl, refl, λ e. no e), (inr (refl, refl, λ e. no e), (inr (refl, refl, λ e. no e), (inr (refl, refl, λ e. no e), (inr (refl, refl, λ e. no e), (inr (refl, refl, λ e. no e), (inr (refl, refl, λ e. refl), (inl refl, (inl refl, tt)))))))))))
+journal_alone = (
+  inr (refl, refl, λ e. no e),
+  (
+    inr (refl, refl, λ e. no e),
+    (
+      inr (refl, refl, λ e. no e),
+      (
+        inr (refl, refl, λ e. no e),
+        (
+          inr (refl, refl, λ e. no e),
+          (
+            inr (refl, refl, λ e. no e),
+            (
+              inr (refl, refl, λ e. no e),
+              (
+                inr (refl, refl, λ e. no e),
+                (inr (refl, refl, λ e. refl), (inl refl, (inl refl, tt))),
+              ),
+            ),
+          ),
+        ),
+      ),
+    ),
+  ),
+)
 
 -- ---- what is required is there
 

@@ -330,7 +330,8 @@ module _ (nodes : List ServerState) (letters : List Letter) (learnt : List Learn
         own = owns_on t.after (own_step n.kept does.0 (given, t.after.kept) does.2 ∙ own);
       }
 
-  turn_on : SubmissionsAreReadSo → CallsKeepTogether → RepeatsKeepTogether → LettersAreReadBack → (t : Turn) → IsWhat n t
+  turn_on : SubmissionsAreReadSo → CallsKeepTogether → RepeatsKeepTogether → LettersAreReadBack → (t : Turn)
+      → IsWhat n t
       → IsHandedLine letters r t.heard.line
       → AreProcesses (slice_set nodes r t.after) (letters ++ t.sent) (learnt ++ t.learnt)
   turn_on say calls again back t (inl quiet) handed = quiet_on t quiet

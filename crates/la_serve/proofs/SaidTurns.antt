@@ -1,6 +1,7 @@
 -- A turn by what is said of its line.
 use Rattle.std.proofs.Common.{◌≡◌, ◌↔◌, IsTrue, ℕ, Bool, true, false, ◌&&◌, [], List, append-nil, filter, take}
-use Rattle.std.proofs.Common.{get_or, ◌+◌, slice_get, Some, None, Option, refl, sym, ap, subst, ◌∙◌, inl, inr, length, leb}
+use Rattle.std.proofs.Common.{get_or, ◌+◌, slice_get, Some, None, Option, refl, sym, ap, subst, ◌∙◌, inl, inr, length}
+use Rattle.std.proofs.Common.{leb}
 use Rattle.std.proofs.Common.{◌==◌, ◌⊎◌, Result, OnOk, IfErr}
 use Rattle.std.proofs.lemmas.Bool.{false≢true, lt-leb}
 use Rattle.std.specs.List.{list_all}
@@ -40,8 +41,8 @@ use Rattle.la_serve.specs.declared.said.Why.TheVariants as why
 use Rattle.la_serve.specs.Asking.{IsAsking, heard_as}
 use Rattle.la_serve.specs.Heard.{HeardLine, bare, heard_name, heard_call, heard_take}
 use Rattle.la_serve.specs.Io.{Io}
-use Rattle.la_serve.specs.Turns.{Turn, ServerState, OneOf, IsKeptTurn, IsSaidTurn, IsAnsweredTurn, IsTurnHere, own_of}
-use Rattle.la_serve.specs.Turns.{only_writes, only_sends, only_says, IsQuestionTurn, IsTakeTurn, IsRequestTurn, IsHeardTurn}
+use Rattle.la_serve.specs.Turns.{Turn, ServerState, OneOf, IsAnsweredTurn, IsTurnHere, own_of}
+use Rattle.la_serve.specs.Turns.{only_writes, only_sends, only_says, IsRequestTurn, IsHeardTurn}
 use Rattle.la_serve.specs.Said.{said_text, is_reached, is_told_known, asks_of, may_be_taken}
 use Rattle.la_serve.specs.Said.{IsSaidToAsk, IsSaidAgain, IsSaidHere, IsSaidToQuestion}
 use Rattle.la_serve.specs.Serving.{OfCall, OfHeard, OfQuestion, OfRequest, OfTake, IsStarvedLine}
@@ -226,9 +227,11 @@ module _ (k : ℕ) (line : List ℕ) (take : Take) (before after : Io) where
             (IsHeardTurn before.objects before.state k
             (heard_take t.heard.line take (taken_tags before.objects before.state.kept take)) t)
             (t ≡ only_says before.state k (heard_name t.heard.line) (said.Refused why.TooManyTags)))
-            (sym few)
-            (so ∙ ap (λ l. heard_take l take (taken_tags before.objects before.state.kept take))
-            (sym (ap (λ (h : HeardLine). h.line) so)), heard.1)),
+            (sym few) (
+              so ∙ ap (λ l. heard_take l take (taken_tags before.objects before.state.kept take))
+                  (sym (ap (λ (h : HeardLine). h.line) so)),
+              heard.1,
+            )),
       )
   take_heard hears is few t (inr hungry) =
       let now : IsStarvedLine line k before after t =
@@ -320,9 +323,11 @@ module _ (k : ℕ) (line : List ℕ) (before after : Io) where
 
   requested : (q : Option Question) (take : Option Take) → question_in (bare line) ≡ q → take_in (bare line) ≡ take
       → (t : Turn) → t.heard.line ≡ line → IsRequested q take t → OfRequest line k before after t
-  requested q take is_q is_take t same is =
-      (same, subst (λ x. IsRequested x (take_in (bare line)) t) (sym is_q)
-          (subst (λ x. IsRequested q x t) (sym is_take) is))
+  requested q take is_q is_take t same is = (
+    same,
+    subst (λ x. IsRequested x (take_in (bare line)) t) (sym is_q)
+        (subst (λ x. IsRequested q x t) (sym is_take) is),
+  )
 
   pub of_question : (q : Question) → question_in (bare line) ≡ Some q → (t : Turn)
       → OfQuestion line q k before after t → OfRequest line k before after t
@@ -332,7 +337,8 @@ module _ (k : ℕ) (line : List ℕ) (before after : Io) where
       → OfTake line take k before after t → OfRequest line k before after t
   of_take take none is t (same, does) = requested None (Some take) none is t same does
 
-  pub of_heard : (hears : HeardLine) → hears ≡ heard_call line → question_in (bare line) ≡ None → take_in (bare line) ≡ None
+  pub of_heard : (hears : HeardLine) → hears ≡ heard_call line → question_in (bare line) ≡ None
+      → take_in (bare line) ≡ None
       → (t : Turn) → OfHeard hears k before after t → OfRequest line k before after t
   of_heard hears is none neither t (inl heard) =
       let so = heard.0 ∙ is in

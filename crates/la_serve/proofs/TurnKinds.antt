@@ -22,8 +22,8 @@ use Rattle.la_serve.specs.Said.{asks_of}
 use Rattle.la_serve.specs.Takes.{taken_tags}
 use Rattle.la_serve.specs.Turns.{ServerState, Turn, only_writes, only_says, turn_refused, faulty, own_of}
 use Rattle.la_serve.specs.Turns.{is_note, is_elsewhere, known_after, OneOf, IsCallTaken, IsSentAgain}
-use Rattle.la_serve.specs.Turns.{IsKeptTurn, IsAnsweredTurn, IsSaidTurn, IsTurnHere, SaysCall, HasFault, IsShortTurn, IsTurn}
-use Rattle.la_serve.specs.Turns.{IsHeardTurn, IsQuestionTurn, IsTakeTurn, IsRequestTurn}
+use Rattle.la_serve.specs.Turns.{IsKeptTurn, IsSaidTurn, IsTurnHere, SaysCall, HasFault, IsShortTurn, IsTurn}
+use Rattle.la_serve.specs.Turns.{IsQuestionTurn, IsTakeTurn, IsRequestTurn}
 
 -- once this is known of others
 abbrev pub hearing : Links → ServerState → ServerState
@@ -117,7 +117,8 @@ module _ (objects : List (ℕ × Kind)) (n : ServerState) (k : ℕ) (t : Turn) w
   take_what take is = elim (one_of (leb (length (taken_tags objects n.kept take)) MAX_TAGS) is) [
     | inl heard ↦ heard_what (inr (take, taken_tags objects n.kept take, heard.0)) heard.1
     | inr many ↦
-        inl (quiet n t (only_says n k (heard_name t.heard.line) (said.Refused TooManyTags)) many (refl, refl, refl, refl))
+        inl (quiet n t (only_says n k (heard_name t.heard.line) (said.Refused TooManyTags)) many
+        (refl, refl, refl, refl))
   ]
 
   request_what : (q : Option Question) (take : Option Take) → IsRequestTurn objects n k q take t → IsWhat n t

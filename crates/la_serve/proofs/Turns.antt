@@ -20,7 +20,8 @@ use Rattle.la_wire.specs.Notes.{refused_note}
 use Rattle.la_serve.specs.Heard.{HeardLine, unheard, bare, heard_name}
 use Rattle.la_serve.specs.Names.{refusal_name}
 use Rattle.la_serve.specs.Turns.{Turn, only_writes, turn_refused, faulty, call_text, own_of, is_note, OneOf, noted_by}
-use Rattle.la_serve.specs.Turns.{ServerState, is_elsewhere, IsKeptTurn, IsTurnHere, IsTurnOf, IsRequestTurn, IsShortTurn}
+use Rattle.la_serve.specs.Turns.{ServerState, is_elsewhere, IsKeptTurn, IsTurnHere, IsTurnOf, IsRequestTurn}
+use Rattle.la_serve.specs.Turns.{IsShortTurn}
 use Rattle.la_serve.specs.Turns.{IsTurn}
 use Rattle.la_serve.specs.Io.{Io}
 use Rattle.la_serve.specs.Serving.{OfCall, TakesBy, TellsNoLine}

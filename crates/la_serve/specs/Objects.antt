@@ -1,5 +1,6 @@
 -- The objects of a node's shelf, as the option `--objects` says them.
-use Rattle.std.specs.Prelude.{ℕ, Bool, true, List, [], ◌∷◌, length, Option, Some, None, option_map, codes, nat_le, ◌==◌, ◌&&◌}
+use Rattle.std.specs.Prelude.{ℕ, Bool, true, List, [], ◌∷◌, length, Option, Some, None, option_map, codes, nat_le}
+use Rattle.std.specs.Prelude.{◌==◌, ◌&&◌}
 use Rattle.std.specs.Prelude.{if◌then◌else◌}
 use Rattle.std.specs.List.{slice_split, before_first, after_first}
 use Rattle.std.specs.Option.{is_none, option_and_then}

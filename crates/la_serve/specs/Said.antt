@@ -1,6 +1,7 @@
 -- What is said of a line that the journal does not gain.
-use Rattle.std.specs.Prelude.{◌≡◌, ◌≢◌, ◌⊎◌, ◌≤◌, ◌<◌, ⊤, ℕ, ◌==◌, nat_le, Bool, true, false, ◌&&◌, List, [], ◌++◌, filter, codes}
-use Rattle.std.specs.Prelude.{length, Option, Some, None, option_map, slice_get, if◌then◌else◌}
+use Rattle.std.specs.Prelude.{◌≡◌, ◌≢◌, ◌⊎◌, ◌≤◌, ◌<◌, ⊤, ℕ, ◌==◌, nat_le, Bool, true, false, ◌&&◌, List, [], ◌++◌}
+use Rattle.std.specs.Prelude.{filter, codes}
+use Rattle.std.specs.Prelude.{length, Option, Some, None, slice_get, if◌then◌else◌}
 use Rattle.std.specs.List.{list_all}
 use Rattle.la_set.specs.declared.counts.Counts.{Counts}
 use Rattle.la_set.specs.declared.tags.TheConstants.{MAX_TAGS}
@@ -11,7 +12,7 @@ use Rattle.la_set.specs.declared.update.UpdateId.{UpdateId}
 use Rattle.la_set.specs.Counts.{count_in, counts_of, from_counts}
 use Rattle.la_set.specs.Histories.{Histories, history, count}
 use Rattle.la_set.specs.ObjectOps.{ObjectOp}
-use Rattle.la_proposer.specs.ProposerState.{ProposerState, op_on, submitted}
+use Rattle.la_proposer.specs.ProposerState.{op_on, submitted}
 use Rattle.la_commit.specs.declared.outcome.Outcome.{Outcome}
 use Rattle.la_object.specs.declared.error.ShelfError.{ShelfError}
 use Rattle.la_object.specs.declared.error.ShelfError.TheVariants.{NoSuchObject, TooManyTags, Memory, Taken, NotFresh}

@@ -22,7 +22,8 @@ use Rattle.la_wire.specs.Questions.{question_in, take_in}
 use Rattle.la_serve.specs.declared.asking.Asking.{Asking}
 use Rattle.la_serve.specs.Asking.{heard_as}
 use Rattle.la_serve.specs.Heard.{HeardLine, bare, heard_name}
-use Rattle.la_serve.specs.Turns.{Turn, ServerState, IsTurn, IsHeardTurn, IsQuestionTurn, IsRequestTurn, IsTakeTurn, turn_refused}
+use Rattle.la_serve.specs.Turns.{Turn, ServerState, IsTurn, IsHeardTurn, IsQuestionTurn, IsRequestTurn, IsTakeTurn}
+use Rattle.la_serve.specs.Turns.{turn_refused}
 
 -- these are the turns of a node from a state on, the first of which is line k's, and this is the state after them
 abbrev pub AreTurns : List (ℕ × Kind) → ServerState → (k : ℕ) → List Turn → (after : ServerState) → Type 0

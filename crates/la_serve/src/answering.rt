@@ -97,7 +97,10 @@ fn take<W: Write, D: Disk, B: Replicated>(
     ensures stages { OnlyStages server.old server.new }
 {
     let Server {
-        node, links, tally, ..
+        node,
+        links,
+        tally,
+        ..
     } = server;
     let own = node.durable.machine.node.own();
     let before = node.durable.machine.node.view().len();
@@ -168,7 +171,10 @@ fn take_or_say<W: Write, D: Disk, B: Replicated>(
     ensures stages { OnlyStages server.old server.new }
 {
     let Server {
-        node, shelf, tally, ..
+        node,
+        shelf,
+        tally,
+        ..
     } = &mut *server;
     let machine = &node.durable.machine;
     match said_here(alloc, machine, shelf, asking, input.call()) {
@@ -200,7 +206,10 @@ fn call_here<W: Write, D: Disk, B: Replicated>(
     match input.call() {
         Call::Ask { object, query, .. } => {
             let Server {
-                node, shelf, tally, ..
+                node,
+                shelf,
+                tally,
+                ..
             } = server;
             let machine = &node.durable.machine;
             let said = said_to_call(alloc, machine, shelf, asking, (*object, query));
@@ -209,7 +218,10 @@ fn call_here<W: Write, D: Disk, B: Replicated>(
         }
         Call::Tick => {
             let Server {
-                node, links, tally, ..
+                node,
+                links,
+                tally,
+                ..
             } = server;
             let machine = &node.durable.machine;
             let said = said_again(alloc, machine, links, &mut tally.sent);
@@ -258,7 +270,10 @@ fn call<W: Write, D: Disk, B: Replicated>(
     ensures stages { OnlyStages server.old server.new }
 {
     let Server {
-        node, links, tally, ..
+        node,
+        links,
+        tally,
+        ..
     } = &mut *server;
     hear(links, &node.durable.machine, input.call());
     count_received(&mut tally.received, input.call());
@@ -353,7 +368,10 @@ fn take_out<W: Write, E: Listener, D: Disk, B: Replicated>(
     ensures stages { OnlyStages server.old server.new }
 {
     let Server {
-        node, shelf, tally, ..
+        node,
+        shelf,
+        tally,
+        ..
     } = &mut *server;
     let machine = &node.durable.machine;
     match taken_tags(alloc, machine, shelf, take) {
@@ -364,10 +382,23 @@ fn take_out<W: Write, E: Listener, D: Disk, B: Replicated>(
                 return starve(server, asking, output);
             };
             let update = take.number;
-            heard(alloc, server, Asking { update, ..asking }, &line, output, errors)
+            heard(
+                alloc,
+                server,
+                Asking { update, ..asking },
+                &line,
+                output,
+                errors,
+            )
         }
         Err(why) => {
-            put(output, tally, machine.node.own(), asking, &Said::Refused(why))?;
+            put(
+                output,
+                tally,
+                machine.node.own(),
+                asking,
+                &Said::Refused(why),
+            )?;
             Ok(())
         }
     }
@@ -404,7 +435,14 @@ fn respond<W: Write, E: Listener, D: Disk, B: Replicated>(
         Ok(Request::Take(take)) => take_out(alloc, server, asking, take, output, errors),
         Ok(Request::Numbered(NumberedCall { number, plain })) => {
             let update = Some(number);
-            heard(alloc, server, Asking { update, ..asking }, &plain, output, errors)
+            heard(
+                alloc,
+                server,
+                Asking { update, ..asking },
+                &plain,
+                output,
+                errors,
+            )
         }
         Ok(Request::Plain) => heard(alloc, server, asking, line, output, errors),
         Err(_) => starve(server, asking, output),

@@ -201,7 +201,11 @@ pub fn said_to<B: Replicated>(
     let name = asking.name;
     match question {
         Question::Status { .. } => said_status(alloc, machine, *links, *tally, name),
-        Question::Tags { object, element, .. } => match still_awaited(machine, asking.after) {
+        Question::Tags {
+            object,
+            element,
+            ..
+        } => match still_awaited(machine, asking.after) {
             Some(after) => said_waiting(alloc, machine, after, name),
             None => said_tags(alloc, machine, shelf, (object, element), name),
         },

@@ -102,12 +102,7 @@ pub fn said_waiting(alloc: Global, machine: &NodeMachine, after: UpdateId, name:
 }
 
 /// What waits for an answer, once more, and it is counted.
-pub fn said_again(
-    alloc: Global,
-    machine: &NodeMachine,
-    links: &Links,
-    sent: &mut Kinds,
-) -> Said
+pub fn said_again(alloc: Global, machine: &NodeMachine, links: &Links, sent: &mut Kinds) -> Said
     ensures { IsSaidAgain links.now (kept_by machine.now) result }
 {
     let Ok(mail) = machine.node.again() else {

@@ -64,8 +64,7 @@ fn taken_before(machine: &NodeMachine, take: Take, number: u32) -> Result<Option
     match &update.op {
         Op::Remove(tags)
             if update.object == take.object
-                && all_put(machine.node.view(), take.object, take.element, tags) =>
-        {
+                && all_put(machine.node.view(), take.object, take.element, tags) => {
             Ok(Some(tags.copy()?))
         }
         _ => Ok(None),

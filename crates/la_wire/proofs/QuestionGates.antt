@@ -4,7 +4,6 @@ use Rattle.std.proofs.Common.{sym, ap, ◌∙◌}
 use Rattle.std.specs.Str.{bytes_eq}
 use Rattle.la_script.specs.declared.forms.Keyword.TheVariants as keyword
 use Rattle.la_script.specs.Forms.{spelling}
-use Rattle.la_script.specs.Lines.{words_of}
 use Rattle.la_script.specs.Numbers.{number, u16_max, u64_max}
 use Rattle.la_wire.specs.Questions.{status_word, take_word, at_word, status_asked, question_asked, question_by, question_in}
 use Rattle.la_wire.specs.Questions.{taker_of, taken_by, take_by, take_in, from_last, awaits, awaited_by, awaited_in}

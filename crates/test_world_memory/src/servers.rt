@@ -14,7 +14,9 @@ use la_node::{Config, Links};
 use la_object::{Kind, Shelf};
 use la_orset::OrSet;
 use la_proposer::Votes;
-use la_serve::{NodeFault, Objects, Options, Output, Server, command, end_without_journal, run, serve};
+use la_serve::{
+    NodeFault, Objects, Options, Output, Server, command, end_without_journal, run, serve,
+};
 use la_set::UpdateSet;
 use la_wire::Tally;
 use std::alloc::Global;

@@ -1,8 +1,5 @@
 use Rattle.std.proofs.Common.{inr, subst}
-use Rattle.la_wire.specs.declared.error.LineError.TheVariants.{Fault}
-use Rattle.la_wire.specs.Notes.{line_fault_line}
 use Rattle.la_durable.specs.Inputs.{IsInputRefusal}
-use Rattle.la_io.specs.Streams.{TellsLine}
 use Rattle.la_serve.specs.Asking.{heard_as}
 use Rattle.la_serve.specs.Serving.{OfHeard, IsStarvedLine}
 use Rattle.la_serve.proofs.TakenLines.{on_ok_more, if_err_more}

@@ -16,7 +16,8 @@ use Rattle.la_serve.proofs.answering.take.Goals as goal
 pub returns-in-Ok-clause-ok : goal.returns-in-Ok-clause-ok
 returns-in-Ok-clause-ok g c =
     let out = rw c.in-Taken.is at c.keep.ensures.outcome in
-    take_taken Appends c.args.asking.number (heard_as c.args.asking c.args.input.now.line) c.args.input.now _ _ (given_of c.in-Taken.given)
+    take_taken Appends c.args.asking.number (heard_as c.args.asking c.args.input.now.line)
+    c.args.input.now _ _ (given_of c.in-Taken.given)
     out.0 out.1 refl _
     (c.deref.ensures.value
     ∙ same_text _ _ _ _ (kept_by c.keep.new.node.durable.machine) _ _ _ _ (given_of c.in-Taken.given) c.in-Ok.ensures
@@ -29,7 +30,8 @@ returns-in_err-write_lines-in-Ok-clause-err g c =
     let out = rw c.in-Taken.is at c.keep.ensures.outcome in
     let f : IfErr c.from_residual.result (λ e. e ≡ WriteFault) = search rules in
     if_err_cut _ _ _ _ c.from_residual.result f
-    (take_taken AppendsPrefix c.args.asking.number (heard_as c.args.asking c.args.input.now.line) c.args.input.now _ _
+    (take_taken AppendsPrefix c.args.asking.number (heard_as c.args.asking c.args.input.now.line)
+    c.args.input.now _ _
     (given_of c.in-Taken.given) out.0 out.1 refl _
     (c.deref.ensures.value
     ∙ same_text _ _ _ _ (kept_by c.keep.new.node.durable.machine) _ _ _ _ (given_of c.in-Taken.given) c.in-Ok.ensures
@@ -40,14 +42,16 @@ returns-in_err-write_lines-in-Ok-clause-err g c =
 pub returns-in-Taken-clause-err : goal.returns-in-Taken-clause-err
 returns-in-Taken-clause-err g c =
     let out = rw c.in-Taken.is at c.keep.ensures.outcome in
-    take_taken AppendsPrefix c.args.asking.number (heard_as c.args.asking c.args.input.now.line) c.args.input.now _ _
+    take_taken AppendsPrefix c.args.asking.number (heard_as c.args.asking c.args.input.now.line)
+    c.args.input.now _ _
     (given_of c.in-Taken.given) out.0 out.1 refl _ refl
     (0, Appends-nil (g.W.Write.contents c.args.output.now))
 
 pub returns-clause-ok : goal.returns-clause-ok
 returns-clause-ok g c =
     let out = rw c.in-Refused.is at c.keep.ensures.outcome in
-    take_refused Appends c.args.asking.number (heard_as c.args.asking c.args.input.now.line) c.args.input.now _ _ c.in-Refused.refusal out.0
+    take_refused Appends c.args.asking.number (heard_as c.args.asking c.args.input.now.line)
+    c.args.input.now _ _ c.in-Refused.refusal out.0
     (same_kept _ _ c.args.server.now.links out.1) out.2
     (same_refusal (Appends (g.W.Write.contents c.args.output.now) (g.W.Write.contents c.refuse.new.output))
     c.own-own.result _ c.args.asking.number c.refusal_name.result.now (refusal_name c.in-Refused.refusal)
@@ -59,7 +63,8 @@ returns-in_err-refuse-in-Refused-clause-err g c =
     let out = rw c.in-Refused.is at c.keep.ensures.outcome in
     let f : IfErr c.from_residual-in_err-refuse-in-Refused.result (λ e. e ≡ WriteFault) = search rules in
     if_err_cut _ _ _ _ c.from_residual-in_err-refuse-in-Refused.result f
-    (take_refused AppendsPrefix c.args.asking.number (heard_as c.args.asking c.args.input.now.line) c.args.input.now _ _ c.in-Refused.refusal
+    (take_refused AppendsPrefix c.args.asking.number (heard_as c.args.asking c.args.input.now.line)
+    c.args.input.now _ _ c.in-Refused.refusal
     out.0 (same_kept _ _ c.args.server.now.links out.1) out.2
     (same_refusal (AppendsPrefix (g.W.Write.contents c.args.output.now) (g.W.Write.contents c.refuse.new.output))
     c.own-own.result _ c.args.asking.number c.refusal_name.result.now (refusal_name c.in-Refused.refusal)

@@ -42,7 +42,8 @@ returns-in-None-clause-ok g c =
     let k = c.args.asking.number in
     let before = io_of (g.W.Write.contents c.args.output.now) server in
     let after = io_of (g.W.Write.contents c.take.new.output) c.take.new.server in
-    on_ok_more (OfCall heard c.args.input.now (λ _. IsKeptTurn) k) (OfCall heard c.args.input.now IsTurnHere k) before after
+    on_ok_more (OfCall heard c.args.input.now (λ _. IsKeptTurn) k) (OfCall heard c.args.input.now IsTurnHere k)
+    before after
     (kept_here k heard c.args.input.now before after c.requires.asked.1
     (subst (λ x. IsSaidHere server.shelf.objects (kept_by server.node.durable.machine) heard (called x) None)
     c.call.ensures.is (c.in-None.ensures c.args.input.now.line)))
@@ -55,7 +56,8 @@ returns-in-None-clause-err g c =
     let k = c.args.asking.number in
     let before = io_of (g.W.Write.contents c.args.output.now) server in
     let after = io_of (g.W.Write.contents c.take.new.output) c.take.new.server in
-    if_err_more (OfCall heard c.args.input.now (λ _. IsKeptTurn) k) (OfCall heard c.args.input.now IsTurnHere k) before after
+    if_err_more (OfCall heard c.args.input.now (λ _. IsKeptTurn) k) (OfCall heard c.args.input.now IsTurnHere k)
+    before after
     (kept_here k heard c.args.input.now before after c.requires.asked.1
     (subst (λ x. IsSaidHere server.shelf.objects (kept_by server.node.durable.machine) heard (called x) None)
     c.call.ensures.is (c.in-None.ensures c.args.input.now.line)))

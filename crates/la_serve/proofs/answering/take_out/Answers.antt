@@ -28,7 +28,8 @@ returns-in-Ok-remove_line-clause-ok g c =
     } c.deref.result.now refl refl refl refl
     (c.deref.ensures.value ∙ c.in-Ok-remove_line.ensures
     ∙ ap (λ ts. call_line_text (Submit take.replica take.object (op.Remove ts))) tags))
-    (sym (ap (λ ts. leb (length ts) MAX_TAGS) tags) ∙ le-leb (length c.in-Ok.tags) MAX_TAGS c.len-few.ensures.tags.within)
+    (sym (ap (λ ts. leb (length ts) MAX_TAGS) tags)
+    ∙ le-leb (length c.in-Ok.tags) MAX_TAGS c.len-few.ensures.tags.within)
     _ c.heard.result c.heard.ensures.ok
 
 pub returns-in-Ok-remove_line-clause-err : goal.returns-in-Ok-remove_line-clause-err
@@ -46,7 +47,8 @@ returns-in-Ok-remove_line-clause-err g c =
     } c.deref.result.now refl refl refl refl
     (c.deref.ensures.value ∙ c.in-Ok-remove_line.ensures
     ∙ ap (λ ts. call_line_text (Submit take.replica take.object (op.Remove ts))) tags))
-    (sym (ap (λ ts. leb (length ts) MAX_TAGS) tags) ∙ le-leb (length c.in-Ok.tags) MAX_TAGS c.len-few.ensures.tags.within)
+    (sym (ap (λ ts. leb (length ts) MAX_TAGS) tags)
+    ∙ le-leb (length c.in-Ok.tags) MAX_TAGS c.len-few.ensures.tags.within)
     _ c.heard.result c.heard.ensures.err
 
 pub returns-in_ok-put-in-Err-clause-ok : goal.returns-in_ok-put-in-Err-clause-ok

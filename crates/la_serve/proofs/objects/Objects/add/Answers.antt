@@ -1,4 +1,5 @@
-use Rattle.std.proofs.Common.{rules, arith, ◌≡◌, ◌∙◌, sym, ap, ap₂, Bool, ◌&&◌, ◌+◌, ◌≤◌, true, false, take, length, ◌++◌, [], ◌∷◌}
+use Rattle.std.proofs.Common.{rules, arith, ◌≡◌, ◌∙◌, sym, ap, ap₂, Bool, ◌&&◌, ◌+◌, ◌≤◌, true, false, take, length}
+use Rattle.std.proofs.Common.{◌++◌, [], ◌∷◌}
 use Rattle.std.specs.Prelude.{slice_set}
 use Rattle.std.proofs.lemmas.Grind.{common_steps}
 use Rattle.std.proofs.lemmas.List.{take_more_set}
