@@ -37,7 +37,7 @@ struct Row {
     later: &'static str,
 }
 
-const ROWS: [Row; 19] = [
+const ROWS: [Row; 18] = [
     Row {
         journal: "",
         line: "submit 0 3 put 7 @a.1\n",
@@ -169,14 +169,6 @@ const ROWS: [Row; 19] = [
         line: "ask 0 3 updates\n",
         kept: "",
         text: "# r0 answered 3 updates 1 0 0 0 0 0 0 0\n",
-        later: "",
-    },
-    Row {
-        journal: ROUND,
-        line: "status 0\n",
-        kept: "",
-        text: "# r0 status version 0.4.0 has 1 view 1 submitted 1 waiting 0 ballot 0 shut in offer 0 yes 0 no 0 \
-            tell 0 known 0 out offer 0 yes 0 no 0 tell 0 known 0 refused 0 written 0 syncs 0\n",
         later: "",
     },
 ];
