@@ -11,6 +11,7 @@ from .clients import Client
 from .disks import flipped
 from .lines import FAULTY
 from .nodes import Node, Stuck
+from .objects import live_of
 
 # A run that takes longer, or so many rounds of ticks at its end, hangs.
 SECONDS, ROUNDS = 60, 400
@@ -80,26 +81,33 @@ class Run:
         self.draw.shuffle(work)
         return work
 
-    def drawn_op(self, strays: float) -> str:
+    def drawn_take(self, own: int) -> str:
+        """What takes an element out; often one that this node has seen."""
+        seen = [element for _, element in live_of(self.checker.found(self.checker.nodes[own].view, "3"))]
+        return f"3 take {self.draw.choice(seen if seen and self.draw.random() < 0.8 else (1, 2))}"
+
+    def drawn_op(self, own: int, strays: float) -> str:
         """What is submitted; so many strays go to any object."""
         word = self.draw.choice(("inc", "inc", "dec", "raise", "put", "put", "put", "remove", "take", "take", "mark"))
         number = {"inc": 1, "dec": 1, "raise": 2, "mark": self.draw.randint(1, 3)}.get(word, 3)
         number = number if self.draw.random() >= strays else self.draw.choice((0, 1, 2, 3, 65535))
+        if (number, word) == (3, "take"):
+            return self.drawn_take(own)
         if word == "remove":
             ids = [f"{own}.{at}" for own, node in enumerate(self.checker.nodes) for at in [*node.submitted, 1]]
             tags = self.draw.sample(ids, min(len(ids), self.draw.randint(0, 4)))
             return " ".join([str(number), word, *sorted(set(tags))])
         largest = 2**32 - 1 if word in ("inc", "dec") else 2**64 - 1
-        often = self.draw.choice((1, 2)) if word in ("put", "take") else self.draw.randint(0, 5)
+        often = self.draw.choice((1, 2)) if word == "put" else self.draw.randint(0, 5)
         value = often if self.draw.random() < 0.95 else largest
         return f"{number} {word}" if word == "mark" else f"{number} {word} {value}"
 
     def drawn_line(self, own: int, what: str) -> str:
         """A line of the workload, for this node."""
         if what == "submit" and own in self.clients:
-            what = self.clients[own].new(self.drawn_op(0))
+            what = self.clients[own].new(self.drawn_op(own, 0))
         elif what == "submit":
-            what = f"submit {own} {self.drawn_op(0.05)}"
+            what = f"submit {own} {self.drawn_op(own, 0.05)}"
         elif what == "ask":
             what = self.drawn_question(own)
         return what + self.drawn_name()
@@ -220,14 +228,27 @@ class Run:
                 node.start()
 
     def settle(self) -> None:
-        """No more kills: all learn all. Each node submits once more, so that it shows its view."""
+        """No more kills: all learn all. Each node says how it stands, and submits once more, so that it shows what it has
+        learnt."""
         for node in self.nodes:
             if not node.process:
                 node.start()
             # One goes on until it is refused, where the cap is small.
             times = self.group.cap + 1 if node.own == 1 and self.group.cap < 100 else 1
-            last = self.draw.choice(("1 mark", "3 take 1", "3 take 2"))
-            self.post(node.give([*self.sent_again(node.own), *[f"submit {node.own} {last}"] * times]))
+            last = self.draw.choice(("1 mark", self.drawn_take(node.own)))
+            lines = [f"status {node.own}", *self.sent_again(node.own), *[f"submit {node.own} {last}"] * times]
+            self.post(node.give(lines))
+        self.learn_all()
+
+    def put_and_take(self) -> None:
+        """One puts an element, and one takes it out once all have learnt that."""
+        for what in ("3 put 7", "3 take 7"):
+            node = self.draw.choice(self.nodes)
+            self.post(node.give([f"submit {node.own} {what}"]))
+            self.learn_all()
+
+    def learn_all(self) -> None:
+        """Messages come, and nodes tick, until all views are equal and have all submissions."""
         for _ in range(ROUNDS):
             while self.pool:
                 own = receiver(self.pool[0])
@@ -278,6 +299,7 @@ class Run:
             if node.lives == 1:
                 self.kill(node)
         self.settle()
+        self.put_and_take()
         self.note(("last", 0, ""))
         self.ask_all()
         self.apart(self.draw.choice(self.nodes))
