@@ -329,7 +329,7 @@ fn came_of(kept: &str, served: Served, before: &[u8], after: &[u8]) -> Came {
 fn serves_again(alloc: Global, row: &Row, journal: &[u8]) -> Came {
     let is_first = journal == begun(row.journal);
     let text = if is_first { row.text } else { row.later };
-    let is_plain = row.later.starts_with("# r0 submitted 0.2");
+    let is_plain = row.line.starts_with("submit 0 ");
     let kept = if is_first || is_plain { row.kept } else { "" };
     let mut server = start(alloc, journal)?;
     let served = serve_line(alloc, &mut server, row.line, text);
