@@ -228,8 +228,8 @@ class Run:
                 node.start()
 
     def settle(self) -> None:
-        """No more kills: all learn all. Each node says how it stands, and submits once more, so that it shows what it has
-        learnt."""
+        """No more kills: all learn all. Each node says how it stands, and submits once more, so that it shows its
+        view."""
         for node in self.nodes:
             if not node.process:
                 node.start()
