@@ -319,7 +319,7 @@ fn tells(
         body: Body::Tell(set.copy().ok()?),
     };
     let mail = Mail::one(alloc, tell);
-    link.send(alloc, group.first()?, &mail).ok()?;
+    link.send(alloc, group.first()?, mail).ok()?;
     match deliver_next(alloc, group, link) {
         Ok(()) => Some(true),
         Err(ReplicaError::NoBase) => Some(false),
