@@ -1,0 +1,3 @@
+mod Tags
+mod Words
+mod Reading
