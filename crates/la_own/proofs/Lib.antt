@@ -1,3 +1,3 @@
 mod Tags
 mod Words
-mod Reading
+pub mod Reading
