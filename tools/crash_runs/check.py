@@ -165,7 +165,7 @@ class Checker:
         words = line.split(" ")
         node.line += 1
         node.names[node.line] = name
-        mine = words[:2] in ([it, str(own)] for it in ("submit", "decide", "ask", "status"))
+        mine = words[:2] in ([it, str(own)] for it in ("submit", "decide", "ask", "update", "status"))
         mine = mine or words[0] == "submit" and words[1].startswith(f"{own}.")
         here = [str(self.group.replicas), str(own)]
         mailed = words[0] in ("offer", "yes", "no", "tell") and words[1:4:2] == here
@@ -222,7 +222,7 @@ class Checker:
 
     def take_out(self, own: int, line: str) -> None:
         node = self.nodes[own]
-        asked = bool(node.awaited) and node.awaited[0][1][0] in ("ask", "status")
+        asked = bool(node.awaited) and node.awaited[0][1][0] in ("ask", "update", "status")
         if node.passed and not asked:
             self.fault("silent", own, line)
         # The answer to the last line that was given.
@@ -333,8 +333,10 @@ class Checker:
         is_seen = not node.exact or not after or has_update(node.view, after)
         return name == "NoSuchObject" and int(words[2]) not in TAKES and words[3] != "updates" and is_seen
 
-    def is_just_status(self, *_: object) -> bool:
+    def is_just_update(self, *_: object) -> bool:
         return False
+
+    is_just_status = is_just_update
 
     def note_answered(self, own: int, number: str, text: str, *_: str) -> None:
         node, (words, after) = self.nodes[own], apart(self.answered_line(own, "ask"))
@@ -348,8 +350,20 @@ class Checker:
         if self.last:
             self.answers[own, asked].add(text)
 
+    def note_update(self, own: int, update: str, replica: str, number: str, text: str, *_: str) -> None:
+        """An update is told, as the view has it."""
+        node, words = self.nodes[own], self.answered_line(own, "update")
+        if words[2] != update or node.exact and not has_update(node.view, update):
+            self.fault("told", own, f"{' '.join(words)} over {node.view}: {update} {text}")
+        self.content(0, (int(replica), int(number), text))
+
     def note_waiting(self, own: int, update: str, *_: str) -> None:
-        node, (words, after) = self.nodes[own], apart(self.answered_line(own, "ask"))
+        node = self.nodes[own]
+        if node.awaited and node.awaited[0][1][0] == "update":
+            words = self.answered_line(own, "update")
+            after = words[2]
+        else:
+            words, after = apart(self.answered_line(own, "ask"))
         if after != update or has_update(node.view, after):
             self.fault("waiting", own, f"{' '.join(words)} at {after or 'nothing'} over {node.view}: for {update}")
 

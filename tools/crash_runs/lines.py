@@ -8,6 +8,7 @@ REPLICAS = 8
 NUMBER = "(0|[1-9][0-9]{0,19})"
 TAGS = rf"( {NUMBER}\.{NUMBER}){{0,64}}"
 OBJECTS = rf"inc {NUMBER}|dec {NUMBER}|raise {NUMBER}|put {NUMBER}|remove{TAGS}|mark"
+OBJECTS += "|own (?:-|(?:[0-9a-f]{2}){1,248})"
 UPDATE = re.compile(rf"{NUMBER}\.{NUMBER} ({NUMBER} (?:{OBJECTS}|vote {NUMBER}|sole {NUMBER}))")
 # Of each kind of line, how many numbers stand behind the word, and behind which words then counts do.
 FORMS = {
@@ -40,29 +41,37 @@ NOTES = {
     "view": re.compile(rf"view{COUNTS}"),
     "outcome": re.compile(rf"outcome {NUMBER} (commit|adopt) {NUMBER}"),
     "answered": re.compile(rf"answered {NUMBER} ({ANSWER})"),
+    "update": re.compile(rf"update ({NUMBER}\.{NUMBER}) ({NUMBER} (?:{OBJECTS}))"),
     "waiting": re.compile(rf"waiting ({NUMBER}\.{NUMBER})"),
     "status": re.compile(f"status {STANDS}"),
     "refused": re.compile(rf"refused {NUMBER} ([A-Za-z]+)"),
 }
 # Lines that say no call, and what is told of each.
 FAULTY = {
-    "subtract 0 1": "BadLine",
-    "tick tick": "BadLine",
-    "submit 0 1 inc 05": "BadNumber",
-    "submit 0 1 inc 4294967296": "BadNumber",
-    "submit 0.0 1 inc 5": "BadNumber",
-    "submit 1.4294967296 1 inc 5": "BadNumber",
-    "submit 0.1 1 incr 5": "BadLine",
-    "submit 0 3 take": "BadLine",
-    "submit 0.0 3 take 7": "BadLine",
-    "ask 0 3 tags 7 at": "BadLine",
-    "ask 0 3 tags 07": "BadLine",
-    "ask 0 1 total at 0.0": "BadLine",
-    "status": "BadLine",
-    "status 0 at 0.1": "BadLine",
-    "deliver 0": "BadLine",
+    "subtract 0 1": "BadLine: 'subtract' is no call",
+    "tick tick": "BadLine: 'tick' is a word too many",
+    "submit 0 1 inc 05": "BadNumber: '05' is no number of 32 bits",
+    "submit 0 1 inc 4294967296": "BadNumber: '4294967296' is no number of 32 bits",
+    "submit 0.0 1 inc 5": "BadNumber: '0.0' is no replica",
+    "submit 1.4294967296 1 inc 5": "BadNumber: '1.4294967296' is no replica",
+    "submit 0.1 1 incr 5": "BadLine: 'incr' is no operation",
+    "submit 0 3 take": "BadLine: the line ends too early",
+    "submit 0.0 3 take 7": "BadLine: '0.0' is no replica",
+    "submit 0 3 remove 1.1 1.1.1": "BadNumber: '1.1.1' is no id of an update",
+    "submit 0 9 own 0a0": "BadNumber: '0a0' is no hexadecimal text",
+    "submit 0.1 9 own": "BadLine: the line ends too early",
+    "update 0 1": "BadLine: '1' is no id of an update",
+    "ask 0 3 tags 7 at": "BadLine: 'at' is a word too many",
+    "ask 0 3 tags 07": "BadLine: '07' is no number of 64 bits",
+    "ask 0 1 total at 0.0": "BadLine: 'at' is a word too many",
+    "ask 0 1 how-large-is-it-for-this-replica-and-others": "BadLine: 'how-large-is-it-for-this-replica' is no question",
+    "ask 0 65536 total": "BadNumber: '65536' is no object",
+    "decide 0 256 1": "BadNumber: '256' is no adopt-commit object",
+    "status": "BadLine: the line ends too early",
+    "status 0 at 0.1": "BadLine: 'at' is a word too many",
+    "deliver 0": "BadLine: 'deliver' is no call",
     "tell 3 0 1 0 1;0.2 1 inc 5": "BadLine",
-    " tick": "BadLine",
+    " tick": "BadLine: '' is no call",
     "yes 3 1 0 0 5 has 9 view 9;": "BadLine",
     "yes 3 1 0 0 5 view 9 has 9": "BadLine",
     "offer 3 1 0 0 5 has 9,9 view 9 base 0,;1.1 1 inc 5": "BadNumber",

@@ -2,6 +2,8 @@
 from __future__ import annotations
 
 COUNTER, REGISTER, SET = 1, 2, 3
+# Under which an object of a type of one's own has its updates.
+OWN = 9
 # What each takes, beside marks.
 TAKES = {COUNTER: ("inc", "dec"), REGISTER: ("raise",), SET: ("put", "remove", "take")}
 # An update's id, and what it does.
@@ -31,6 +33,8 @@ def counts_of(updates: list[Named]) -> list[int]:
 
 def unfit(number: int, word: str) -> str:
     """Why an object does not take an operation: the refusal's name; nothing, where it does."""
+    if word == "own":
+        return "Foreign" if number in TAKES else ""
     if number not in TAKES:
         return "NoSuchObject"
     return "" if word == "mark" or word in TAKES[number] else "Foreign"

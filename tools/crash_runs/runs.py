@@ -11,7 +11,7 @@ from .clients import Client
 from .disks import flipped
 from .lines import FAULTY
 from .nodes import Node, Stuck
-from .objects import live_of
+from .objects import OWN, live_of
 
 # A run that takes longer, or so many rounds of ticks at its end, hangs.
 SECONDS, ROUNDS = 60, 400
@@ -88,11 +88,14 @@ class Run:
 
     def drawn_op(self, own: int, strays: float) -> str:
         """What is submitted; so many strays go to any object."""
-        word = self.draw.choice(("inc", "inc", "dec", "raise", "put", "put", "put", "remove", "take", "take", "mark"))
-        number = {"inc": 1, "dec": 1, "raise": 2, "mark": self.draw.randint(1, 3)}.get(word, 3)
+        words = ("inc", "inc", "dec", "raise", "put", "put", "put", "remove", "take", "take", "mark", "own", "own")
+        word = self.draw.choice(words)
+        number = {"inc": 1, "dec": 1, "raise": 2, "mark": self.draw.randint(1, 3), "own": OWN}.get(word, 3)
         number = number if self.draw.random() >= strays else self.draw.choice((0, 1, 2, 3, 65535))
         if (number, word) == (3, "take"):
             return self.drawn_take(own)
+        if word == "own":
+            return f"{number} own {self.drawn_bytes()}"
         if word == "remove":
             ids = [f"{own}.{at}" for own, node in enumerate(self.checker.nodes) for at in [*node.submitted, 1]]
             tags = self.draw.sample(ids, min(len(ids), self.draw.randint(0, 4)))
@@ -101,6 +104,11 @@ class Run:
         often = self.draw.choice((1, 2)) if word == "put" else self.draw.randint(0, 5)
         value = often if self.draw.random() < 0.95 else largest
         return f"{number} {word}" if word == "mark" else f"{number} {word} {value}"
+
+    def drawn_bytes(self) -> str:
+        """The bytes of an operation of one's own, as a word."""
+        length = self.draw.choice((0, 1, 4, 5, self.draw.randint(0, 248), 248))
+        return self.draw.randbytes(length).hex() or "-"
 
     def drawn_line(self, own: int, what: str) -> str:
         """A line of the workload, for this node."""
@@ -116,6 +124,9 @@ class Run:
         """How a node stands; or a question, which may wait for what this one or another submitted last, or is to."""
         if self.draw.random() < 0.2:
             return f"status {own}"
+        if self.draw.random() < 0.2:
+            of = self.draw.randrange(self.group.replicas)
+            return f"update {own} {of}.{self.draw.randint(1, max(self.checker.nodes[of].submitted, default=1) + 1)}"
         question = f"ask {own} {self.draw.choice((*QUESTIONS, self.draw.choice(ELSEWHERE)))}"
         if self.draw.random() < 0.4:
             return question
@@ -138,7 +149,7 @@ class Run:
         elsewhere += [f"ask {other} 1 total", f"submit {other}.1 1 inc 7", f"known {group} {other} {own} has 0 view 0"]
         elsewhere += [f"ask {other} 3 tags 1 at {own}.1", f"submit {other} 3 take 1", f"status {other}"]
         elsewhere += self.draw.sample(mail, min(3, len(mail)))
-        faulty = [it + self.drawn_name() if it[:3] in ("sub", "tic", "del", "ask", "sta") else it for it in FAULTY]
+        faulty = [it + self.drawn_name() if it[:3] in ("sub", "tic", "del", "ask", "sta", "dec") else it for it in FAULTY]
         return self.draw.choice((*elsewhere, *faulty))
 
     # What happens
@@ -287,6 +298,7 @@ class Run:
             node.give([f"ask {node.own} {it} at {update}" for it, update in zip(QUESTIONS, behind)])
             again = [f"decide {node.own} {at} {value}" for at, value in self.checker.nodes[node.own].proposed.items()]
             node.give([it + self.drawn_name() for it in [*again, f"status {node.own}"]])
+            node.give([f"update {node.own} {replica}.{at}" for replica, most in enumerate(made) for at in range(1, most + 1)])
             self.post(node.give([]))
 
     def play(self) -> None:

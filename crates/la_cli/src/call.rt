@@ -40,7 +40,7 @@ pub const VERSION: &str = "0.4.0";
 
 /// What the help of `lattice` and of `lattice node` says of a node.
 pub const ABOUT_NODE: &str =
-    "Runs one replica of a group over lines: lattice node --own 0 --journal folder";
+    "Runs one replica of a group over lines: lattice node --own 0 --journal folder; see help call";
 
 const ABOUT: &str = "Plays scripts of a group of replicas that agree without consensus";
 

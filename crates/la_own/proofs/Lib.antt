@@ -1,3 +1,3 @@
 mod Tags
-mod Words
+pub mod Words
 pub mod Reading

@@ -8,7 +8,7 @@ use Rattle.std.proofs.lemmas.List.FromFn.{fill_by_all, get_or-map-range_with_len
 use Rattle.std.proofs.lemmas.Nat.{le_bytes_4}
 use Rattle.la_set.specs.declared.update.UpdateId.{UpdateId}
 use Rattle.la_set.specs.Ids.{IsBelow}
-use Rattle.la_own.specs.Own.{AreOwnBytes, word_at, length_tag, word_tag, own_tags, no_tag, word_of, byte_at, told_length, bytes_in}
+use Rattle.la_own.specs.Own.{AreOwnBytes, word_count, word_at, length_tag, word_tag, own_tags, no_tag, word_of, byte_at, told_length, bytes_in}
 use Rattle.la_own.specs.declared.own.TheConstants.{OWN_BYTES}
 use Rattle.la_own.proofs.Tags.{own_tags-at}
 
@@ -87,6 +87,19 @@ tags_below bytes own count (suc k) d lt =
     let below : IsBelow (word_tag bytes k) (word_tag bytes count) = inl (omega arith) in
     subst (λ tag. IsBelow tag (word_tag bytes count))
     (sym (get_or-map-range_with_len (word_tag bytes) 0 count k k d within (omega arith))) below
+
+-- each tag has a replica of 8 bits, and a number of 32 bits from 1
+pub own_tags-fit : (bytes : List ℕ) → AreOwnBytes bytes
+    → All (λ tag. (tag.replica < 256) × (1 ≤ tag.number) × (tag.number < 4294967296)) (own_tags bytes)
+own_tags-fit bytes own zero d lt = (omega arith, omega arith, omega (arith, own.few))
+own_tags-fit bytes own (suc k) d lt =
+    let within : k < word_count bytes = omega (arith, length-map-range_with_len (word_tag bytes) 0 (word_count bytes)) in
+    let small : word_at bytes k < 4294967296 = word_small bytes own.small k in
+    let few : word_count bytes ≤ 62 = omega (arith, own.few) in
+    let fits : (10 + 2 * k + word_at bytes k / 2147483648 < 256) × (1 ≤ word_at bytes k % 2147483648 + 1)
+    × (word_at bytes k % 2147483648 + 1 < 4294967296) = (omega arith, omega arith, omega arith) in
+    subst (λ tag. (tag.replica < 256) × (1 ≤ tag.number) × (tag.number < 4294967296))
+    (sym (get_or-map-range_with_len (word_tag bytes) 0 (word_count bytes) k k d within (omega arith))) fits
 
 -- what tags carry is bytes
 byte_at-small : (tags : List UpdateId) (place : ℕ) → byte_at tags place < 256

@@ -14,7 +14,7 @@ use Rattle.la_object.specs.declared.query.Query.{Query}
 use Rattle.la_object.specs.declared.query.Query.TheVariants as query
 use Rattle.la_object.specs.Objects.{value}
 use Rattle.la_serve.specs.declared.said.Why.TheVariants as why
-use Rattle.la_serve.specs.Said.{object_takes, query_for, unfit}
+use Rattle.la_serve.specs.Said.{object_takes, query_for, unfit_here}
 
 abbrev is_foreign : Answer → Bool
 is_foreign answer.Foreign = true
@@ -72,7 +72,7 @@ module _ (us : List Update) where
 
   -- why it is none, by the answer
   pub unfit_by_answer : (o : Option Kind) (does : Op) (q : Query) (a : Answer) → query_for does ≡ Some q
-      → option_map (λ k. value k us q) o ≡ Some a → cond (is_foreign a) (Some why.Foreign) None ≡ unfit o does
+      → option_map (λ k. value k us q) o ≡ Some a → cond (is_foreign a) (Some why.Foreign) None ≡ unfit_here o does
   unfit_by_answer None does q a is says = absurd (none-some a says)
   unfit_by_answer (Some k) does q a is says =
       sym (turned (is_foreign a) (object_takes k does)

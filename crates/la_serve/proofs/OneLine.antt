@@ -11,6 +11,7 @@ use Rattle.la_wire.specs.CallLines.{named_call}
 use Rattle.la_durable.specs.CallLines.{is_line}
 use Rattle.la_durable.specs.Inputs.{InputState, IsInputRefusal}
 use Rattle.la_wire.specs.Notes.{refused_note, line_fault_line}
+use Rattle.la_wire.specs.Wrongs.{wrong_of}
 use Rattle.la_io.specs.Streams.{TellsLine, TellsAll}
 use Rattle.la_serve.specs.declared.error.NodeFault.{NodeFault}
 use Rattle.la_serve.specs.declared.asking.Asking.{Asking}
@@ -64,7 +65,7 @@ module _ {E : Type 0} (heard : E → Option (List ℕ)) (refuses : E → List �
   -- it has a fault
   pub fault_taken : (k : ℕ) (hears : HeardLine) (before : Io) (e2 : E) (f : LineFault)
       → IsInputRefusal hears.call (Fault f)
-      → TellsLine heard refuses e1 e2 (line_fault_line k f hears.name)
+      → TellsLine heard refuses e1 e2 (line_fault_line k f (wrong_of f hears.call) hears.name)
       → TakesLine (OfHeard hears k) (TellsAll heard refuses e1 e2) before before
   fault_taken k hears before e2 f refusal t = record {
     turn = faulty before.state k hears f;

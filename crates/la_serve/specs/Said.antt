@@ -3,6 +3,7 @@ use Rattle.std.specs.Prelude.{◌≡◌, ◌≢◌, ◌⊎◌, ◌≤◌, ◌<�
 use Rattle.std.specs.Prelude.{filter, codes}
 use Rattle.std.specs.Prelude.{length, Option, Some, None, slice_get, if◌then◌else◌}
 use Rattle.std.specs.List.{list_all}
+use Rattle.std.specs.Option.{is_some}
 use Rattle.la_set.specs.declared.counts.Counts.{Counts}
 use Rattle.la_set.specs.declared.tags.TheConstants.{MAX_TAGS}
 use Rattle.la_set.specs.declared.update.Op.{Op}
@@ -10,8 +11,9 @@ use Rattle.la_set.specs.declared.update.Op.TheVariants as op
 use Rattle.la_set.specs.declared.update.Update.{Update}
 use Rattle.la_set.specs.declared.update.UpdateId.{UpdateId}
 use Rattle.la_set.specs.Counts.{count_in, counts_of, from_counts}
-use Rattle.la_set.specs.Histories.{Histories, history, count}
+use Rattle.la_set.specs.Histories.{Histories, history, count, get}
 use Rattle.la_set.specs.ObjectOps.{ObjectOp}
+use Rattle.la_own.specs.Own.{bytes_of as own_bytes_of}
 use Rattle.la_proposer.specs.ProposerState.{op_on, submitted}
 use Rattle.la_commit.specs.declared.outcome.Outcome.{Outcome}
 use Rattle.la_object.specs.declared.error.ShelfError.{ShelfError}
@@ -34,13 +36,13 @@ use Rattle.la_node.specs.Accepting.{has_counts}
 use Rattle.la_node.specs.Links.{letters_of, is_owed, standing_of}
 use Rattle.la_node.specs.Nodes.{returned_by}
 use Rattle.la_wire.specs.declared.questions.Question.{Question}
-use Rattle.la_wire.specs.declared.questions.Question.TheVariants.{Tags, Updates, Status}
+use Rattle.la_wire.specs.declared.questions.Question.TheVariants.{Tags, Updates, Update as UpdateOf, Status}
 use Rattle.la_wire.specs.declared.status.NodeStatus.{NodeStatus}
 use Rattle.la_wire.specs.declared.status.Tally.{Tally}
 use Rattle.la_wire.specs.Calls.{WireCall, Submit, Decide, Ask, Tick, Receive, Known}
 use Rattle.la_wire.specs.Messages.{WireMessage, WireBody, Offer, Yes, No, Tell}
 use Rattle.la_wire.specs.Notes.{answered_note, refused_note, submitted_note, proposed_note, outcome_note, letters_text}
-use Rattle.la_wire.specs.Notes.{known_line, tags_note, updates_note, waiting_note}
+use Rattle.la_wire.specs.Notes.{known_line, tags_note, update_note, updates_note, waiting_note}
 use Rattle.la_wire.specs.Status.{status_note}
 use Rattle.la_serve.specs.declared.said.Said.{Said}
 use Rattle.la_serve.specs.declared.said.Said.TheVariants as said
@@ -169,7 +171,13 @@ IsSaidStatus n known name s =
 abbrev pub asks_of : Question → ℕ
 asks_of (Tags replica object element) = replica
 asks_of (Updates replica object) = replica
+asks_of (UpdateOf replica id) = replica
 asks_of (Status replica) = replica
+
+-- the update that an id has, or that it is waited for
+abbrev pub update_told : (own : ℕ) → (id : UpdateId) → (name : List ℕ) → Option Update → List ℕ
+update_told own id name None = waiting_note own id name
+update_told own id name (Some u) = update_note own u name
 
 -- what is said to a question that is no call
 abbrev pub IsSaidToQuestion : List (ℕ × Kind) → ReplicaState → (known : Links) → HeardLine → Question → Said → Type 0
@@ -179,6 +187,8 @@ IsSaidToQuestion objects n known h (Tags replica object element) s =
 IsSaidToQuestion objects n known h (Updates replica object) s =
     IsSaidAfter n h.name h.after
     (IsSaidText (λ text. text ≡ updates_note n.own object (object_counts n.view object) h.name)) s
+IsSaidToQuestion objects n known h (UpdateOf replica id) s =
+    IsSaidText (λ text. text ≡ update_told n.own id h.name (get n.view id)) s
 IsSaidToQuestion objects n known h (Status replica) s = IsSaidStatus n known h.name s
 
 -- ## Ticks and messages
@@ -229,10 +239,19 @@ query_for (op.Remove tags) = Some query.Size
 query_for op.Mark = None
 query_for (op.Vote value sole) = None
 
+-- why an operation is none of an object's on the shelf
+abbrev pub unfit_here : Option Kind → Op → Option Why
+unfit_here None does = Some why.NoSuchObject
+unfit_here (Some kind) does = if object_takes kind does then None else Some why.Foreign
+
+-- one of one's own goes to a number under which the shelf has none: objects of such types stand elsewhere
+abbrev pub unfit_own : Option Kind → Option Why
+unfit_own None = None
+unfit_own (Some kind) = Some why.Foreign
+
 -- why an operation is none of an object's
 abbrev pub unfit : Option Kind → Op → Option Why
-unfit None does = Some why.NoSuchObject
-unfit (Some kind) does = if object_takes kind does then None else Some why.Foreign
+unfit there does = if is_some (own_bytes_of does) then unfit_own there else unfit_here there does
 
 -- that a submission was done under this number, or that another was, or none
 abbrev pub IsSaidNumbered : (own number : ℕ) → (name : List ℕ) → ObjectOp → Option ObjectOp → Said → Type 0

@@ -1,5 +1,5 @@
 -- What lines come to, one after another.
-use Rattle.std.specs.Prelude.{◌≡◌, ◌⊎◌, ℕ, ◌+◌, Bool, true, false, List, [], ◌∷◌, ◌++◌, length, Option, map}
+use Rattle.std.specs.Prelude.{◌≡◌, ◌⊎◌, ℕ, ◌+◌, Bool, true, false, List, [], ◌∷◌, ◌++◌, length, Option, None, map}
 use Rattle.std.specs.List.{flat_map}
 use Rattle.std.specs.Io.KnownBytes.{Appends, Keeps, Consumes, IsAtEnd}
 use Rattle.la_io.specs.Streams.{AppendsPrefix}
@@ -144,7 +144,7 @@ pub record IsTurnStep (k : ℕ) (before after : Io) (t : Turn) : Type 0 where
 -- what is told of bytes behind the last line's end, where there are some
 abbrev pub cut_told : (k : ℕ) → (rest : List ℕ) → List (List ℕ)
 cut_told k [] = []
-cut_told k (b ∷ rest) = line_fault_line k BadLine [] ∷ []
+cut_told k (b ∷ rest) = line_fault_line k BadLine None [] ∷ []
 
 -- the input is at its end, perhaps behind bytes that no line's end follows, and nothing has changed
 pub record InputEnds (k : ℕ) (Told : List (List ℕ) → Type 0) (before after : Io) : Type 0 where

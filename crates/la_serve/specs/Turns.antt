@@ -43,6 +43,7 @@ use Rattle.la_world.specs.LiveGroups.{LearntSet, learnt_set}
 use Rattle.la_serve.specs.Names.{refusal_name}
 use Rattle.la_wire.specs.Notes.{submitted_note, proposed_note, learnt_note, view_note, outcome_note}
 use Rattle.la_wire.specs.Notes.{refused_note, line_fault_line, letters_text}
+use Rattle.la_wire.specs.Wrongs.{wrong_of}
 use Rattle.la_serve.specs.Heard.{HeardLine, unheard, bare, heard_name, heard_call, heard_take}
 use Rattle.la_serve.specs.Said.{said_text, IsSaidHere, IsSaidToQuestion, asks_of}
 use Rattle.la_serve.specs.Takes.{taken_tags}
@@ -187,7 +188,7 @@ only_says n k heard s = only_writes n heard (said_text (own_of n) k heard.name s
 abbrev pub turn_refused : ServerState → (k : ℕ) → HeardLine → NodeError → Turn
 turn_refused n k heard e = only_writes n heard (refused_note (own_of n) k (refusal_name e) heard.name)
 
--- line k has this fault: it is told, and nothing is written
+-- line k has this fault: it is told, with the part that is wrong, and nothing is written
 abbrev pub faulty : ServerState → (k : ℕ) → HeardLine → LineFault → Turn
 faulty n k heard fault =
     record {
@@ -196,7 +197,7 @@ faulty n k heard fault =
       sent = [];
       learnt = [];
       kept = [];
-      told = line_fault_line k fault heard.name ∷ [];
+      told = line_fault_line k fault (wrong_of fault heard.call) heard.name ∷ [];
       after = n;
     }
 

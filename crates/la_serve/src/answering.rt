@@ -32,7 +32,7 @@ use la_object::Replicated;
 use la_set::{Op, Tags};
 use la_wire::{
     Call, LineError, MAX_NAME, NumberedCall, Question, Take, Tally, refuse, request_in, tell_fault,
-    write,
+    write, wrong_part,
 };
 use std::alloc::{AllocError, Global};
 use std::io::Write;
@@ -315,10 +315,13 @@ fn heard<W: Write, E: Listener, D: Disk, B: Replicated>(
             let _call = input.call();
             call(alloc, server, asking, &input, output)
         }
-        Err(LineError::Fault(fault)) => {
-            tell_fault(errors, asking.number, fault, asking.name);
-            Ok(())
-        }
+        Err(LineError::Fault(fault)) => match wrong_part(alloc, fault, line) {
+            Ok(wrong) => {
+                tell_fault(errors, asking.number, fault, wrong, asking.name);
+                Ok(())
+            }
+            Err(_) => starve(server, asking, output),
+        },
         Err(LineError::Memory) => starve(server, asking, output),
     }
 }

@@ -10,7 +10,7 @@ use std::io;
 use std::io::Write;
 
 /// A listener to which each line is told behind who tells it, as `lattice node: r0: `: so of many nodes in one log it is
-/// known which speaks. A line of at most 96 bytes, as all are but those that tell of a folder, is handed on with its
+/// known which speaks. A line of at most 192 bytes, as all are but those that tell of a folder, is handed on with its
 /// label, as one. It takes no memory.
 #[derive(Drop)]
 pub struct Labelled<E: Listener + Drop> {
@@ -41,7 +41,7 @@ impl<E: Listener + Drop> Labelled<E> {
             (self.old.label.bytes ++ line.now)) }
         ensures label { self.new.label ≡ self.old.label }
     {
-        let mut whole: ArrayVec<u8, 120> = ArrayVec::new();
+        let mut whole: ArrayVec<u8, 216> = ArrayVec::new();
         let label = self.label.as_str().as_bytes();
         let fits = whole.try_extend_from_slice(label).is_ok()
             && whole.try_extend_from_slice(line).is_ok();

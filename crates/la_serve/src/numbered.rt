@@ -9,7 +9,7 @@ ghost use Rattle.la_object.specs.Shelves.{kind_at};
 ghost use Rattle.la_durable.specs.Nodes.{kept_by};
 ghost use Rattle.la_serve.specs.Asking.{heard_as};
 ghost use Rattle.la_serve.specs.Numbered.{submission_under, is_next_number, proposal_by};
-ghost use Rattle.la_serve.specs.Said.{unfit, query_for, is_vote_for, is_this_value};
+ghost use Rattle.la_serve.specs.Said.{unfit_here, unfit, query_for, is_vote_for, is_this_value};
 ghost use Rattle.la_serve.specs.Said.{IsSaidNumbered, IsSaidUnder, IsSaidOfSubmission, IsSaidOfProposal};
 
 use crate::asking::Asking;
@@ -17,6 +17,7 @@ use crate::said::{Said, Why};
 use crate::texts::{proposed_text, submitted_text};
 use la_durable::NodeMachine;
 use la_object::{Answer, Query, Replicated, Shelf};
+use la_own::own_bytes;
 use la_proposer::{Proposer, laws};
 use la_set::{Op, Update, UpdateId};
 use std::alloc::Global;
@@ -109,9 +110,9 @@ fn query_for(op: &Op) -> Option<Query>
     }
 }
 
-// Why an operation is none of an object's, by what the object answers.
-fn unfit<B: Replicated>(shelf: &Shelf<B>, object: u16, op: &Op) -> Option<Why>
-    ensures { result ≡ unfit (kind_at shelf.now.objects object) op.now }
+// Why an operation is none of an object's on the shelf, by what the object answers.
+fn unfit_here<B: Replicated>(shelf: &Shelf<B>, object: u16, op: &Op) -> Option<Why>
+    ensures { result ≡ unfit_here (kind_at shelf.now.objects object) op.now }
 {
     if !shelf.has(object) {
         return Some(Why::NoSuchObject);
@@ -126,6 +127,20 @@ fn unfit<B: Replicated>(shelf: &Shelf<B>, object: u16, op: &Op) -> Option<Why>
             Op::Mark => None,
             _ => Some(Why::Foreign),
         },
+    }
+}
+
+// Why an operation is none of an object's: one of one's own goes to a number under which the shelf has none.
+fn unfit<B: Replicated>(shelf: &Shelf<B>, object: u16, op: &Op) -> Option<Why>
+    ensures { result ≡ unfit (kind_at shelf.now.objects object) op.now }
+{
+    if own_bytes(op).is_none() {
+        return unfit_here(shelf, object, op);
+    }
+    if shelf.has(object) {
+        Some(Why::Foreign)
+    } else {
+        None
     }
 }
 

@@ -1,6 +1,6 @@
 // What is said to questions that no call says.
 ghost use Rattle.std.specs.Prelude.{◌≡◌, ◌<◌, ◌==◌, Some, filter, length, IfOk, IfErr};
-ghost use Rattle.la_set.specs.Histories.{history};
+ghost use Rattle.la_set.specs.Histories.{history, get};
 ghost use Rattle.la_set.specs.Inclusion.{IsSubset};
 ghost use Rattle.la_set.specs.ObjectOps.{ObjectOp};
 ghost use Rattle.la_object.specs.Shelves.{tags_at};
@@ -8,13 +8,13 @@ ghost use Rattle.la_wire.specs.Notes.{updates_note};
 ghost use Rattle.la_durable.specs.Nodes.{kept_by};
 ghost use Rattle.la_serve.specs.Asking.{IsAsking};
 ghost use Rattle.la_serve.specs.Heard.{heard_name};
-ghost use Rattle.la_serve.specs.Said.{asks_of, count_of, node_version, object_counts, shelf_by, told_status};
+ghost use Rattle.la_serve.specs.Said.{asks_of, count_of, node_version, object_counts, shelf_by, told_status, update_told};
 ghost use Rattle.la_serve.specs.Said.{IsSaidAfter, IsSaidStatus, IsSaidTags, IsSaidText, IsSaidToQuestion, IsUntagged};
 
 use crate::asking::Asking;
 use crate::said::{Said, Why};
 use crate::saying::{said_waiting, still_awaited};
-use crate::texts::{status_text, tags_text, updates_text};
+use crate::texts::{status_text, tags_text, update_text, updates_text};
 use la_durable::NodeMachine;
 use la_node::Links;
 use la_object::{Query, Replicated, Shelf, ShelfError};
@@ -37,6 +37,7 @@ fn asks_of(question: Question) -> u8
     match question {
         Question::Tags { replica, .. }
         | Question::Updates { replica, .. }
+        | Question::Update { replica, .. }
         | Question::Status { replica } => replica,
     }
 }
@@ -139,6 +140,20 @@ fn said_updates(alloc: Global, machine: &NodeMachine, object: u16, name: &str) -
     }
 }
 
+// What is said of the update that an id has, to a request of this name: that it is waited for, where the view lacks it.
+fn said_update(alloc: Global, machine: &NodeMachine, id: UpdateId, name: &str) -> Said
+    ensures { IsSaidText (λ text. text ≡ update_told machine.now.node.replica.own id name.now
+        (get machine.now.node.replica.view id)) result }
+{
+    let Some(update) = machine.node.view().get(id) else {
+        return said_waiting(alloc, machine, id, name);
+    };
+    match update_text(alloc, machine.node.own(), update, name) {
+        Ok(text) => Said::Lines(text),
+        Err(_) => Said::Refused(Why::Memory),
+    }
+}
+
 // How a node stands.
 fn status_of(machine: &NodeMachine, known: Links, tally: Tally) -> NodeStatus
     ensures { result ≡ told_status (kept_by machine.now) known tally }
@@ -209,6 +224,7 @@ pub fn said_to<B: Replicated>(
             Some(after) => said_waiting(alloc, machine, after, name),
             None => said_tags(alloc, machine, shelf, (object, element), name),
         },
+        Question::Update { id, .. } => said_update(alloc, machine, id, name),
         Question::Updates { object, .. } => match still_awaited(machine, asking.after) {
             Some(after) => said_waiting(alloc, machine, after, name),
             None => said_updates(alloc, machine, object, name),

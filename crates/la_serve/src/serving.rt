@@ -48,11 +48,11 @@ fn step<R: Read, E: Listener, D: Disk, B: Replicated>(
             Ok(true)
         }
         Next::Long => {
-            tell_fault(errors, number, LineFault::TooLong, "");
+            tell_fault(errors, number, LineFault::TooLong, None, "");
             Ok(true)
         }
         Next::Cut => {
-            tell_fault(errors, number, LineFault::BadLine, "");
+            tell_fault(errors, number, LineFault::BadLine, None, "");
             Ok(false)
         }
         Next::End => Ok(false),

@@ -5,7 +5,7 @@ ghost use Rattle.la_wire.specs.Calls.{called};
 ghost use Rattle.la_node.specs.Steps.{given_of};
 ghost use Rattle.la_node.specs.Links.{letter_of, letters_of, is_owed};
 ghost use Rattle.la_wire.specs.Notes.{submitted_note, answered_note, message_line, letters_text, known_line};
-ghost use Rattle.la_wire.specs.Notes.{proposed_note, waiting_note, tags_note, updates_note};
+ghost use Rattle.la_wire.specs.Notes.{proposed_note, waiting_note, tags_note, update_note, updates_note};
 ghost use Rattle.la_wire.specs.Status.{status_note};
 ghost use Rattle.la_serve.specs.Said.{returned_text};
 ghost use Rattle.la_durable.specs.Nodes.{kept_by};
@@ -17,11 +17,11 @@ use la_durable::NodeMachine;
 use la_node::{Links, Node, Received, Standing};
 use la_object::{Answer, Counter};
 use la_replica::{Mail, Message};
-use la_set::{Counts, Tags, UpdateId, UpdateSet};
+use la_set::{Counts, Tags, Update, UpdateId, UpdateSet};
 use la_wire::{
     Call, Letter, NodeStatus, put_answered, put_known_line, put_learnt, put_letter_line,
-    put_outcome, put_proposed, put_status, put_submitted, put_tags_answer, put_updates_answer,
-    put_view, put_waiting,
+    put_outcome, put_proposed, put_status, put_submitted, put_tags_answer, put_update_answer,
+    put_updates_answer, put_view, put_waiting,
 };
 use std::alloc::{AllocError, Global};
 
@@ -241,6 +241,20 @@ pub fn tags_text(
 {
     let mut out = Vec::new(alloc);
     put_tags_answer(&mut out, own, object, tags, name)?;
+    Ok(out)
+}
+
+/// What is written of an update, to a request of this name.
+pub fn update_text(
+    alloc: Global,
+    own: u8,
+    update: &Update,
+    name: &str,
+) -> Result<Vec<u8>, AllocError>
+    ensures { IfOk result (λ text. text.items ≡ update_note own update.now name.now) }
+{
+    let mut out = Vec::new(alloc);
+    put_update_answer(&mut out, own, update, name)?;
     Ok(out)
 }
 

@@ -1,6 +1,6 @@
 -- Calls are read back from their lines.
-use Rattle.std.proofs.Common.{◌≡◌, ℕ, ◌≤◌, true, false, eqb, List, [], ◌∷◌, ◌++◌, length, map, All, Some, None, Ok}
-use Rattle.std.proofs.Common.{refl, ap, ◌∙◌, arith}
+use Rattle.std.proofs.Common.{◌≡◌, ℕ, ◌≤◌, true, false, eqb, List, [], ◌∷◌, ◌++◌, length, map, All, Option, Some, None, Ok}
+use Rattle.std.proofs.Common.{cond, refl, sym, ap, ◌∙◌, arith}
 use Rattle.std.specs.Fmt.{decimal}
 use Rattle.std.specs.Str.{bytes_eq}
 use Rattle.std.proofs.lemmas.Bool.{le-leb, ne_eqb}
@@ -29,10 +29,11 @@ use Rattle.la_script.specs.Lines.{words_of, event_in}
 use Rattle.la_wire.specs.declared.messages.Kind.{Kind}
 use Rattle.la_wire.specs.declared.messages.Kind.TheVariants as kind
 use Rattle.la_wire.specs.Joined.{spaced}
-use Rattle.la_wire.specs.Updates.{update_text, op_words, made}
+use Rattle.la_wire.specs.Updates.{update_text, remove_words, op_words, made}
 use Rattle.la_wire.specs.Calls.{WireCall, Submit, Decide, Ask, Tick, Receive, Known}
 use Rattle.la_wire.specs.CallLines.{query_words, tick_word, call_line_text, event_call, script_call, first_kind}
-use Rattle.la_wire.specs.CallLines.{is_known, known_by, known_call, call_by, call_of}
+use Rattle.la_wire.specs.CallLines.{script_words, are_own, own_words_call, words_call, is_known, known_by, known_call}
+use Rattle.la_wire.specs.CallLines.{call_by, call_of}
 use Rattle.la_wire.specs.MessageLines.{kind_text as kind_word, kind_in, progress_words, base_words, carried}
 use Rattle.la_wire.specs.MessageLines.{message_text, line_message, known_word, standing_words, standing_text}
 use Rattle.la_node.specs.declared.link.Standing.{Standing}
@@ -42,6 +43,10 @@ use Rattle.la_wire.proofs.Decimals.{number-decimal, decimal-plain, is_plain, IsP
 use Rattle.la_wire.proofs.Joins.{words-back}
 use Rattle.la_wire.proofs.Ids.{tags-back}
 use Rattle.la_wire.proofs.Typed.{typed-op}
+use Rattle.la_own.specs.Own.{bytes_of as own_bytes_of}
+use Rattle.la_own.proofs.Reading.{bytes_of-made}
+use Rattle.la_wire.proofs.OwnTexts.{own-text-back}
+use Rattle.la_wire.proofs.FirstWords.{not_own}
 use Rattle.la_wire.proofs.UpdatesBack.{op-plain}
 use Rattle.la_wire.proofs.MessagesBack.{message-back, standing-back, standing-plain}
 
@@ -106,7 +111,7 @@ module _ (r o : ℕ) (small_r : r ≤ u8_max) (small_o : o ≤ u16_max) where
   mark-form = rw (sr, so) refl
 
   remove-form : (ids : List UpdateId) → All IsId ids → length ids ≤ 64
-      → form_of Two (submitted (op_words (op.Remove ids))) ≡ Some form.Remove
+      → form_of Two (submitted (remove_words ids None)) ≡ Some form.Remove
   remove-form [] all few = rw (sr, so) refl
   remove-form (id ∷ ids) all few =
       rw (
@@ -133,25 +138,51 @@ module _ (r o : ℕ) (small_r : r ≤ u8_max) (small_o : o ≤ u16_max) where
   mark-values : values (form_places form.Mark) (submitted (op_words op.Mark)) no_values ≡ Some (record no_values { replica = r; object = o })
   mark-values = rw (nr, no) refl
 
-  remove-values : (ids : List UpdateId) → tag_words (map id_text ids) ≡ Some ids → values (form_places form.Remove) (submitted (op_words (op.Remove ids))) no_values ≡ Some (record no_values { replica = r; object = o; tags = ids })
+  remove-values : (ids : List UpdateId) → tag_words (map id_text ids) ≡ Some ids → values (form_places form.Remove) (submitted (remove_words ids None)) no_values ≡ Some (record no_values { replica = r; object = o; tags = ids })
   remove-values [] back = rw (nr, no) refl
   remove-values (id ∷ ids) back = rw (nr, no, back) refl
 
-  submit-event : (does : Op) → IsOp does → IsVoteless does
-      → event_in (submitted (op_words does)) (form_of Two (submitted (op_words does))) ≡ Ok (event.Submit r o does)
-  submit-event (op.Inc x) is vote =
-      event-by (submitted (op_words (op.Inc x))) form.Inc _ (inc-form x (omega arith)) (inc-values x is)
-  submit-event (op.Dec x) is vote =
-      event-by (submitted (op_words (op.Dec x))) form.Dec _ (dec-form x (omega arith)) (dec-values x is)
-  submit-event (op.Raise x) is vote =
-      event-by (submitted (op_words (op.Raise x))) form.Raise _ (raise-form x is) (raise-values x is)
-  submit-event (op.Put x) is vote =
-      event-by (submitted (op_words (op.Put x))) form.Put _ (put-form x is) (put-values x is)
-  submit-event (op.Remove ids) is vote =
-      event-by (submitted (op_words (op.Remove ids))) form.Remove _ (remove-form ids is.1 is.0.within)
-      (remove-values ids (tags-back ids is.0.ascending is.1))
-  submit-event op.Mark is vote = event-by (submitted (op_words op.Mark)) form.Mark _ mark-form mark-values
-  submit-event (op.Vote x sole) is vote = absurd vote
+  script-said : (words : List (List ℕ)) (does : Op) → are_own (submitted words) ≡ false
+      → event_in (submitted words) (form_of Two (submitted words)) ≡ Ok (event.Submit r o does)
+      → words_call (submitted words) ≡ Ok (Submit r o does)
+  script-said words does script is =
+      ap (λ b. cond b (own_words_call (submitted words)) (script_words (submitted words))) script ∙ ap script_call is
+
+  remove-no-own : (ids : List UpdateId) → are_own (submitted (remove_words ids None)) ≡ false
+  remove-no-own [] = refl
+  remove-no-own (id ∷ []) = refl
+  remove-no-own (id ∷ more ∷ ids) = refl
+
+  -- of one's own, or any other
+  remove-said : (ids : List UpdateId) (known : Option (List ℕ)) → own_bytes_of (op.Remove ids) ≡ known
+      → IsOp (op.Remove ids) → words_call (submitted (remove_words ids known)) ≡ Ok (Submit r o (op.Remove ids))
+  remove-said ids None none is =
+      script-said (remove_words ids None) (op.Remove ids) (remove-no-own ids)
+      (event-by (submitted (remove_words ids None)) form.Remove _ (remove-form ids is.1 is.0.within)
+      (remove-values ids (tags-back ids is.0.ascending is.1)))
+  remove-said ids (Some bytes) own is =
+      let made = bytes_of-made (op.Remove ids) bytes own in
+      rw (nr, no, own-text-back bytes made.0) (ap (λ (does : Op). Ok (Submit r o does)) (sym made.1))
+
+  submit-said : (does : Op) → IsOp does → IsVoteless does
+      → words_call (submitted (op_words does)) ≡ Ok (Submit r o does)
+  submit-said (op.Inc x) is vote =
+      script-said (op_words (op.Inc x)) (op.Inc x) refl
+      (event-by (submitted (op_words (op.Inc x))) form.Inc _ (inc-form x (omega arith)) (inc-values x is))
+  submit-said (op.Dec x) is vote =
+      script-said (op_words (op.Dec x)) (op.Dec x) refl
+      (event-by (submitted (op_words (op.Dec x))) form.Dec _ (dec-form x (omega arith)) (dec-values x is))
+  submit-said (op.Raise x) is vote =
+      script-said (op_words (op.Raise x)) (op.Raise x) refl
+      (event-by (submitted (op_words (op.Raise x))) form.Raise _ (raise-form x is) (raise-values x is))
+  submit-said (op.Put x) is vote =
+      script-said (op_words (op.Put x)) (op.Put x) refl
+      (event-by (submitted (op_words (op.Put x))) form.Put _ (put-form x is) (put-values x is))
+  submit-said (op.Remove ids) is vote = remove-said ids (own_bytes_of (op.Remove ids)) refl is
+  submit-said op.Mark is vote =
+      script-said (op_words op.Mark) op.Mark refl
+      (event-by (submitted (op_words op.Mark)) form.Mark _ mark-form mark-values)
+  submit-said (op.Vote x sole) is vote = absurd vote
 
   total-form : form_of Two (asked (query_words query.Total)) ≡ Some form.Total
   total-form = rw (sr, so) refl
@@ -255,39 +286,46 @@ query-plain query.Items is =
 -- ## Calls
 
 -- a line that begins with none of the words of messages, nor is `tick`
-script-line : (line : List ℕ) (words : List (List ℕ)) (e : Event) (call : WireCall) → first_kind line ≡ None
-    → is_known line ≡ false
-    → words_of line ≡ words → event_in words (form_of Two words) ≡ Ok e → event_call e ≡ Ok call
+worded-line : (line : List ℕ) (words : List (List ℕ)) (call : WireCall) → first_kind line ≡ None → is_known line ≡ false
+    → words_of line ≡ words → words_call words ≡ Ok call → call_by (first_kind line) line ≡ Ok call
+worded-line line words call none known is says = rw (none, known) (ap words_call is ∙ says)
+
+-- and whose first word is not `submit`
+script-line : (line first : List ℕ) (more : List (List ℕ)) (e : Event) (call : WireCall) → first_kind line ≡ None
+    → is_known line ≡ false → words_of line ≡ first ∷ more → bytes_eq first (spelling keyword.Submit) ≡ false
+    → event_in (first ∷ more) (form_of Two (first ∷ more)) ≡ Ok e → event_call e ≡ Ok call
     → call_by (first_kind line) line ≡ Ok call
-script-line line words e call none known is back event =
-    rw (none, known) (ap (λ ws. script_call (event_in ws (form_of Two ws))) is ∙ ap script_call back ∙ event)
+script-line line first more e call none known is other back event =
+    worded-line line (first ∷ more) call none known is
+    (ap (λ b. cond b (own_words_call (first ∷ more)) (script_words (first ∷ more))) (not_own first more other)
+    ∙ ap script_call back ∙ event)
 
 submit-back : (r o : ℕ) (does : Op) → IsCall (Submit r o does) → call_of (call_line_text (Submit r o does)) ≡ Ok (Submit r o does)
 unfolding call_of
 submit-back r o does is =
-    script-line (call_line_text (Submit r o does)) (submitted r o is.0 is.1 (op_words does)) (event.Submit r o does)
-    (Submit r o does) refl refl
+    worded-line (call_line_text (Submit r o does)) (submitted r o is.0 is.1 (op_words does)) (Submit r o does) refl refl
     (words-back (spelling keyword.Submit) (decimal r ∷ decimal o ∷ op_words does)
     (AllPass-from_list_all is_plain (spelling keyword.Submit) refl)
     (front-plain r o is.0 is.1 (op_words does) (op-plain does (typed-op does is.2))))
-    (submit-event r o is.0 is.1 does is.2 is.3) refl
+    (submit-said r o is.0 is.1 does is.2 is.3)
 
 decide-back : (r c v : ℕ) → IsCall (Decide r c v) → call_of (call_line_text (Decide r c v)) ≡ Ok (Decide r c v)
 unfolding call_of
 decide-back r c v is =
-    script-line (call_line_text (Decide r c v)) (spelling keyword.Decide ∷ decimal r ∷ decimal c ∷ decimal v ∷ [])
+    script-line (call_line_text (Decide r c v)) (spelling keyword.Decide) (decimal r ∷ decimal c ∷ decimal v ∷ [])
     (event.Decide r c v) (Decide r c v) refl refl
     (words-back (spelling keyword.Decide) (decimal r ∷ decimal c ∷ decimal v ∷ [])
-    (AllPass-from_list_all is_plain (spelling keyword.Decide) refl) (decide-plain r c v is))
+    (AllPass-from_list_all is_plain (spelling keyword.Decide) refl) (decide-plain r c v is)) refl
     (decide-event r c v is.0 is.1 is.2) refl
 
 ask-back : (r o : ℕ) (q : Query) → IsCall (Ask r o q) → call_of (call_line_text (Ask r o q)) ≡ Ok (Ask r o q)
 unfolding call_of
 ask-back r o q is =
-    script-line (call_line_text (Ask r o q)) (asked r o is.0 is.1 (query_words q)) (event.Ask r o q) (Ask r o q) refl refl
+    script-line (call_line_text (Ask r o q)) (spelling keyword.Ask) (decimal r ∷ decimal o ∷ query_words q)
+    (event.Ask r o q) (Ask r o q) refl refl
     (words-back (spelling keyword.Ask) (decimal r ∷ decimal o ∷ query_words q)
     (AllPass-from_list_all is_plain (spelling keyword.Ask) refl)
-    (front-plain r o is.0 is.1 (query_words q) (query-plain q is.2)))
+    (front-plain r o is.0 is.1 (query_words q) (query-plain q is.2))) refl
     (ask-event r o is.0 is.1 q is.2) refl
 
 kind-first : (k : Kind) (a b : List ℕ) → first_kind ((kind_word k ++ 32 ∷ a) ++ b) ≡ Some k

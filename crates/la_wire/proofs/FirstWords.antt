@@ -10,14 +10,17 @@ use Rattle.std.proofs.lemmas.Option.{none-some, same_Some}
 use Rattle.std.proofs.lemmas.Slice.Eq.{bytes_eq-Decides}
 use Rattle.la_script.specs.declared.forms.Form.{Form}
 use Rattle.la_script.specs.declared.script.Version.TheVariants.{Two}
-use Rattle.la_script.specs.Forms.{form_places, fits, forms, has_form, has_gap, form_of}
-use Rattle.la_script.specs.Lines.{words_of, event_in, line_event}
+use Rattle.la_script.specs.declared.forms.Keyword.TheVariants as keyword
+use Rattle.la_script.specs.Forms.{spelling, form_places, fits, forms, has_form, has_gap, form_of}
+use Rattle.la_script.specs.Lines.{words_of, event_in}
 use Rattle.la_wire.specs.declared.messages.Kind.{Kind}
+use Rattle.la_wire.specs.declared.updates.Verb.TheVariants as verb
 use Rattle.la_wire.specs.MessageLines.{kind_word, known_word}
 use Rattle.la_wire.specs.Calls.{WireCall, Tick}
-use Rattle.la_wire.specs.CallLines.{tick_word, script_call, known_call, first_kind, call_by, call_of, said_ok}
-use Rattle.la_wire.specs.CallLines.{named_call}
-use Rattle.la_wire.specs.Requests.{front_word}
+use Rattle.la_wire.specs.Updates.{verb_spelling}
+use Rattle.la_wire.specs.CallLines.{tick_word, script_call, script_words, are_own, own_words_call, words_call, known_call}
+use Rattle.la_wire.specs.CallLines.{first_kind, call_by, call_of, said_ok, named_call}
+use Rattle.la_wire.specs.Joined.{front_word}
 
 -- ## Parts
 
@@ -60,12 +63,25 @@ form_fits words f e =
 
 -- what words say
 abbrev pub said_of : List (List ℕ) → Option WireCall
-said_of words = said_ok (script_call (event_in words (form_of Two words)))
+said_of words = said_ok (words_call words)
 
--- the form that words have which say a call
-pub form_said : (words : List (List ℕ)) (c : WireCall) → said_of words ≡ Some c
+-- words of which the first is not `submit` say nothing of one's own
+pub not_own : (first : List ℕ) (more : List (List ℕ)) → bytes_eq first (spelling keyword.Submit) ≡ false
+    → are_own (first ∷ more) ≡ false
+not_own first [] other = refl
+not_own first (a ∷ []) other = refl
+not_own first (a ∷ b ∷ []) other = refl
+not_own first (a ∷ b ∷ c ∷ []) other = refl
+not_own first (a ∷ b ∷ c ∷ d ∷ []) other = ap (λ t. t && bytes_eq c (verb_spelling verb.Own)) other
+not_own first (a ∷ b ∷ c ∷ d ∷ e ∷ rest) other = refl
+
+pub said_as_script : (words : List (List ℕ)) → are_own words ≡ false → said_of words ≡ said_ok (script_words words)
+said_as_script words other = ap (λ b. said_ok (cond b (own_words_call words) (script_words words))) other
+
+-- the form that words have which say a call, none of one's own
+pub form_said : (words : List (List ℕ)) (c : WireCall) → are_own words ≡ false → said_of words ≡ Some c
     → (f : Form) × (fits (form_places f) words ≡ true)
-form_said words c says = by_form (form_of Two words) refl says
+form_said words c other says = by_form (form_of Two words) refl (sym (said_as_script words other) ∙ says)
   where
     by_form : (o : Option Form) → form_of Two words ≡ o → said_ok (script_call (event_in words o)) ≡ Some c
         → (f : Form) × (fits (form_places f) words ≡ true)
@@ -81,14 +97,14 @@ module _ (line w : List ℕ) (front : front_word line ≡ w) (other : bytes_eq w
       (λ is. false≢true (sym other ∙ (bytes_eq-Decides w tick_word).1
       (sym front ∙ ap front_word ((bytes_eq-Decides line tick_word).0 is))))
 
-  said_by_script : named_call line ≡ said_ok (script_call (line_event Two line))
+  said_by_script : named_call line ≡ said_of (words_of line)
   unfolding call_of
   said_by_script =
       ap (λ b. said_ok (cond b (Ok Tick) (call_by (first_kind line) line))) no_tick
       ∙ ap (λ (k : Option Kind). said_ok (call_by k line)) (ap kind_word front ∙ none)
-      ∙ ap (λ b. said_ok (cond b (known_call line) (script_call (line_event Two line))))
+      ∙ ap (λ b. said_ok (cond b (known_call line) (words_call (words_of line))))
       (ap (λ v. bytes_eq v known_word) front ∙ unknown)
 
   pub said_by_words : (words : List (List ℕ)) → words_of line ≡ w ∷ words → named_call line ≡ said_of (w ∷ words)
   said_by_words words is =
-      said_by_script ∙ ap (λ ws. said_ok (script_call (event_in ws (form_of Two ws)))) is
+      said_by_script ∙ ap said_of is

@@ -1,6 +1,6 @@
 -- How long the lines of letters are.
 use Rattle.std.proofs.Common.{◌≡◌, ℕ, ◌+◌, ◌*◌, ◌<◌, ◌≤◌, true, false, List, [], ◌∷◌, ◌++◌, length, map, All, refl, ap}
-use Rattle.std.proofs.Common.{Ok, subst, arith, length-append}
+use Rattle.std.proofs.Common.{Ok, Option, Some, None, subst, arith, length-append}
 use Rattle.std.specs.Fmt.{decimal}
 use Rattle.std.proofs.lemmas.Bool.{leb-true, le-ltb}
 use Rattle.std.proofs.lemmas.Fmt.{length-decimal-le}
@@ -18,7 +18,7 @@ use Rattle.la_wire.specs.declared.messages.Kind.{Kind}
 use Rattle.la_wire.specs.declared.messages.Kind.TheVariants as kind
 use Rattle.la_wire.specs.declared.updates.Verb.TheVariants as verb
 use Rattle.la_wire.specs.Joined.{spaced, joined_by}
-use Rattle.la_wire.specs.Updates.{verb_spelling, op_words, update_text}
+use Rattle.la_wire.specs.Updates.{verb_spelling, own_text, remove_words, op_words, update_text}
 use Rattle.la_wire.specs.Messages.{WireMessage, WireBody, Offer, Yes, No, Tell}
 use Rattle.la_wire.specs.MessageLines.{kind_text, has_word, view_word, base_word, numbers_in, used, counts_text}
 use Rattle.la_wire.specs.MessageLines.{kind_in, base_words, carried, head_words, message_text}
@@ -26,6 +26,9 @@ use Rattle.la_wire.specs.Calls.{Receive}
 use Rattle.la_wire.specs.CallLines.{bounded_call_of}
 use Rattle.la_wire.specs.Writable.{IsIdFrom, IsOpFrom, IsUpdateFrom, IsBodyFrom, IsCounts, IsMessage, IsTypedMessage}
 use Rattle.la_wire.specs.Writable.{IsTagless}
+use Rattle.la_own.specs.Own.{bytes_of as own_bytes_of}
+use Rattle.la_own.proofs.Reading.{bytes_of-made}
+use Rattle.la_wire.proofs.OwnTexts.{own-length}
 use Rattle.la_wire.proofs.Ids.{id-text}
 use Rattle.la_wire.proofs.Typed.{typed-message}
 use Rattle.la_wire.proofs.CountTexts.{written, written-few, used-low, used-high}
@@ -106,12 +109,24 @@ remove-length : (tags : List UpdateId) → length tags ≤ 64 → All (IsIdFrom 
     → length (spaced 32 (verb_spelling verb.Remove ∷ map id_text tags)) ≤ 967
 remove-length tags few all = omega (arith, tags-length tags few all)
 
+any-remove : (tags : List UpdateId) (o : Option (List ℕ)) → own_bytes_of (Remove tags) ≡ o → IsOpFrom 0 (Remove tags)
+    → length (spaced 32 (remove_words tags o)) ≤ 967
+any-remove tags None none is = remove-length tags is.0.within is.1
+any-remove tags (Some bytes) some is =
+    let own = own-length bytes (bytes_of-made (Remove tags) bytes some).0 in
+    omega (
+      arith,
+      own.1,
+      length-spaced 32 (verb_spelling verb.Own) (own_text bytes ∷ []),
+      length-spaced 32 (own_text bytes) [],
+    )
+
 any-op : (op : Op) → IsOpFrom 0 op → length (spaced 32 (op_words op)) ≤ 967
 any-op (Inc x) is = omega (arith, short-op (Inc x) is tt)
 any-op (Dec x) is = omega (arith, short-op (Dec x) is tt)
 any-op (Raise x) is = omega (arith, short-op (Raise x) is tt)
 any-op (Put x) is = omega (arith, short-op (Put x) is tt)
-any-op (Remove tags) is = remove-length tags is.0.within is.1
+any-op (Remove tags) is = any-remove tags (own_bytes_of (Remove tags)) refl is
 any-op Mark is = omega (arith, short-op Mark is tt)
 any-op (Vote x sole) is = omega (arith, short-op (Vote x sole) is tt)
 

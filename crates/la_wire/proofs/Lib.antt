@@ -23,4 +23,6 @@ pub mod QuestionWords
 pub mod QuestionsBack
 pub mod QuestionGates
 pub mod QuestionLines
+pub mod OwnTexts
+pub mod OwnLines
 pub mod NoteParts

@@ -1,6 +1,6 @@
 -- Submissions under numbers, read apart.
 use Rattle.std.proofs.Common.{◌≡◌, ℕ, ◌<◌, ◌==◌, Bool, true, false, cond, eqb, List, [], ◌∷◌, ◌++◌}
-use Rattle.std.proofs.Common.{length, All, Option, Some, None, option_map, refl, sym}
+use Rattle.std.proofs.Common.{length, All, Option, Some, None, option_map, Result, Ok, Err, refl, sym}
 use Rattle.std.proofs.Common.{ap, subst}
 use Rattle.std.proofs.Common.{◌∙◌, arith, inl, inr}
 use Rattle.std.specs.Char.{is_ascii_digit}
@@ -26,20 +26,23 @@ use Rattle.la_script.specs.declared.script.Version.TheVariants.{Two}
 use Rattle.la_script.specs.declared.values.Values.{Values}
 use Rattle.la_script.specs.Forms.{spelling, form_places, fits, form_of}
 use Rattle.la_script.specs.Lines.{words_of, or_fault, event_in}
-use Rattle.la_script.specs.Numbers.{u8_max, is_canonical, number}
+use Rattle.la_script.specs.Numbers.{u8_max, u16_max, is_canonical, number}
 use Rattle.la_script.specs.Tags.{tag_of_replica, tag_in, tag_of}
 use Rattle.la_script.specs.Text.{id_text}
 use Rattle.la_script.specs.Values.{no_values, values, event}
 use Rattle.la_wire.specs.Joined.{joined_by}
-use Rattle.la_wire.specs.Updates.{op_words}
+use Rattle.la_wire.specs.declared.error.LineFault.{LineFault}
+use Rattle.la_wire.specs.Readings.{◌>>=◌, number_on}
+use Rattle.la_wire.specs.Updates.{op_words, own_on}
 use Rattle.la_wire.specs.Calls.{WireCall, Submit}
-use Rattle.la_wire.specs.CallLines.{call_line_text, event_call, script_call}
+use Rattle.la_wire.specs.CallLines.{call_line_text, event_call, script_call, script_words, are_own, own_words_call}
 use Rattle.la_wire.specs.CallLines.{said_ok, named_call}
 use Rattle.la_wire.specs.Writable.{IsId}
-use Rattle.la_wire.specs.Requests.{NumberedLine, front_word, behind_word, submission_line, numbered_by, numbered_in}
+use Rattle.la_wire.specs.Joined.{front_word, behind_word}
+use Rattle.la_wire.specs.Requests.{NumberedLine, submission_line, numbered_by, numbered_in}
 use Rattle.la_wire.specs.Requests.{numbered_submission, IsSubmission}
 use Rattle.la_wire.proofs.Decimals.{decimal-no_stop}
-use Rattle.la_wire.proofs.FirstWords.{nothing_behind, first_part, form_fits, said_of, said_by_words}
+use Rattle.la_wire.proofs.FirstWords.{nothing_behind, first_part, form_fits, said_of, said_as_script, said_by_words}
 use Rattle.la_wire.proofs.Ids.{id-text, id-plain, id-back}
 use Rattle.la_wire.proofs.Joins.{plain-no_space, before-first, after-first}
 use Rattle.la_wire.proofs.Typed.{typed-id}
@@ -122,6 +125,34 @@ is_submission words form.Has is v c e = absurd (false≢true is)
 is_submission words form.Size is v c e = absurd (false≢true is)
 is_submission words form.Items is v c e = absurd (false≢true is)
 
+-- a submission of one's own is one
+own_is_submission : (r o : Result ℕ LineFault) (does : Result Op LineFault) (c : WireCall)
+    → said_ok (r >>= (λ r. o >>= (λ o. does >>= (λ op. Ok (Submit r o op))))) ≡ Some c → IsSubmission c
+own_is_submission (Ok r) (Ok o) (Ok op) c e = subst IsSubmission (same_Some (Submit r o op) c e) tt
+own_is_submission (Ok r) (Ok o) (Err fault) c e = absurd (none-some c e)
+own_is_submission (Ok r) (Err fault) does c e = absurd (none-some c e)
+own_is_submission (Err fault) o does c e = absurd (none-some c e)
+
+own_words_submit : (words : List (List ℕ)) (c : WireCall) → are_own words ≡ true
+    → said_ok (own_words_call words) ≡ Some c → IsSubmission c
+own_words_submit [] c is e = absurd (false≢true is)
+own_words_submit (a ∷ []) c is e = absurd (false≢true is)
+own_words_submit (a ∷ b ∷ []) c is e = absurd (false≢true is)
+own_words_submit (a ∷ b ∷ d ∷ []) c is e = absurd (false≢true is)
+own_words_submit (a ∷ b ∷ d ∷ w ∷ []) c is e = absurd (false≢true is)
+own_words_submit (a ∷ b ∷ d ∷ w ∷ text ∷ []) c is e =
+    own_is_submission (number_on 0 u8_max b) (number_on 0 u16_max d) (own_on text) c e
+own_words_submit (a ∷ b ∷ d ∷ w ∷ text ∷ x ∷ more) c is e = absurd (false≢true is)
+
+-- and nothing is read of one where the word behind `submit` is no number
+no_own_said : (first word : List ℕ) (more : List (List ℕ)) → number 0 u8_max word ≡ None
+    → said_ok (own_words_call (first ∷ word ∷ more)) ≡ None
+no_own_said first word [] none = refl
+no_own_said first word (a ∷ []) none = refl
+no_own_said first word (a ∷ b ∷ []) none = refl
+no_own_said first word (a ∷ b ∷ text ∷ []) none = rw none refl
+no_own_said first word (a ∷ b ∷ text ∷ d ∷ more) none = refl
+
 module _ (words : List (List ℕ)) (c : WireCall) where
   by_values : (f : Form) → fits (form_places f) (spelling keyword.Submit ∷ words) ≡ true → (o : Option Values)
       → said_ok (script_call (or_fault BadNumber (option_map (event f) o))) ≡ Some c → IsSubmission c
@@ -134,6 +165,17 @@ module _ (words : List (List ℕ)) (c : WireCall) where
   by_form (Some f) at e =
       by_values f (form_fits (spelling keyword.Submit ∷ words) f at)
       (values (form_places f) (spelling keyword.Submit ∷ words) no_values) e
+
+submits_only : (words : List (List ℕ)) (c : WireCall) → said_of (spelling keyword.Submit ∷ words) ≡ Some c
+    → IsSubmission c
+submits_only words c e =
+    let submits : List (List ℕ) = spelling keyword.Submit ∷ words in
+    elim (cases_Bool (are_own submits)) [
+      | inl is ↦
+          own_words_submit submits c is
+          (sym (ap (λ b. said_ok (cond b (own_words_call submits) (script_words submits))) is) ∙ e)
+      | inr other ↦ by_form words c (form_of Two submits) refl (sym (said_as_script submits other) ∙ e)
+    ]
 
 -- and nothing is read where the word behind it is no number
 module _ (word : List ℕ) (more : List (List ℕ)) (none : number 0 u8_max word ≡ None) where
@@ -162,6 +204,14 @@ module _ (word : List ℕ) (more : List (List ℕ)) (none : number 0 u8_max word
       ap (λ o. said_ok (script_call (or_fault BadNumber (option_map (event f) o))))
       (none_said f (form_fits submits f at))
 
+  none_submitted : said_of submits ≡ None
+  none_submitted = elim (cases_Bool (are_own submits)) [
+    | inl is ↦
+        ap (λ b. said_ok (cond b (own_words_call submits) (script_words submits))) is
+        ∙ no_own_said (spelling keyword.Submit) word more none
+    | inr other ↦ said_as_script submits other ∙ none_by_form (form_of Two submits) refl
+  ]
+
 -- ## A line that begins with `submit`
 
 module _ (line : List ℕ) (front : front_word line ≡ spelling keyword.Submit) where
@@ -176,7 +226,7 @@ module _ (line : List ℕ) (front : front_word line ≡ spelling keyword.Submit)
         let two = two_words line less in
         let word = front_word (behind_word line) in
         by_words (word ∷ two.0) (two.1 ∙ ap (λ w. w ∷ word ∷ two.0) front)
-        ∙ none_by_form word two.0 (id_no_number word id is) (form_of Two (spelling keyword.Submit ∷ word ∷ two.0)) refl
+        ∙ none_submitted word two.0 (id_no_number word id is)
     | inr past ↦
         absurd (none-some id (sym (ap (λ b. tag_of (front_word b)) (nothing_behind (λ b. b == 32) line past)) ∙ is))
   ]
@@ -217,8 +267,7 @@ under_submit line first behind word rest a b c d is =
 plain_says : (word rest : List ℕ) (c : WireCall) → named_call (submission_line word rest) ≡ Some c → IsSubmission c
 plain_says word rest c says =
     let words : List (List ℕ) = slice_split (λ b. b == 32) (word ++ 32 ∷ rest) in
-    by_form words c (form_of Two (spelling keyword.Submit ∷ words)) refl
-    (sym (by_words (submission_line word rest) refl words refl) ∙ says)
+    submits_only words c (sym (by_words (submission_line word rest) refl words refl) ∙ says)
 
 -- so is what is written of a submission
 pub written_submits : (replica object : ℕ) (does : Op) (c : WireCall)

@@ -5,21 +5,27 @@ use Rattle.std.specs.Str.{bytes_eq}
 use Rattle.la_script.specs.declared.forms.Keyword.TheVariants as keyword
 use Rattle.la_script.specs.Forms.{spelling}
 use Rattle.la_script.specs.Numbers.{number, u16_max, u64_max}
-use Rattle.la_wire.specs.Questions.{status_word, take_word, at_word, status_asked, question_asked, question_by, question_in}
+use Rattle.la_wire.specs.Questions.{status_word, update_word, update_asked, take_word, at_word, status_asked}
+use Rattle.la_wire.specs.Questions.{question_asked, question_by, question_in}
 use Rattle.la_wire.specs.Questions.{taker_of, taken_by, take_by, take_in, from_last, awaits, awaited_by, awaited_in}
-use Rattle.la_wire.specs.Requests.{front_word}
+use Rattle.la_wire.specs.Joined.{front_word}
 use Rattle.la_wire.proofs.FirstWords.{first_part}
 
 no_question : (line : List ℕ) → bytes_eq (front_word line) status_word ≡ false
-    → bytes_eq (front_word line) (spelling keyword.Ask) ≡ false → question_in line ≡ None
+    → bytes_eq (front_word line) update_word ≡ false → bytes_eq (front_word line) (spelling keyword.Ask) ≡ false → question_in line ≡ None
 unfolding question_in
-no_question line status ask =
+no_question line status update ask =
     let part = first_part (λ b. b == 32) line in
     ap question_by part.1
     ∙ ap
     (λ t.
     cond t (status_asked part.0)
-    (cond (bytes_eq (front_word line) (spelling keyword.Ask)) (question_asked part.0) None)) status
+    (cond (bytes_eq (front_word line) update_word) (update_asked part.0)
+    (cond (bytes_eq (front_word line) (spelling keyword.Ask)) (question_asked part.0) None))) status
+    ∙ ap
+    (λ t.
+    cond t (update_asked part.0)
+    (cond (bytes_eq (front_word line) (spelling keyword.Ask)) (question_asked part.0) None)) update
     ∙ ap (λ t. cond t (question_asked part.0) None) ask
 
 no_take_by : (word : List ℕ) (words : List (List ℕ)) → bytes_eq word (spelling keyword.Submit) ≡ false
@@ -51,12 +57,11 @@ nothing_awaited line other =
     (awaited_by line (from_last 1 (front_word line ∷ part.0))) None) other
 
 -- by tests of the first word
-pub no_question_here : (line status_is ask_is : List ℕ) (a b : Bool)
-    → a ≡ bytes_eq (front_word line) status_is → b ≡ bytes_eq (front_word line) ask_is → status_is ≡ status_word
-    → ask_is ≡ spelling keyword.Ask → a ≡ false → b ≡ false → None ≡ question_in line
-no_question_here line status_is ask_is a b tests asks status ask other neither =
-    sym (no_question line (ap (bytes_eq (front_word line)) (sym status) ∙ sym tests ∙ other)
-    (ap (bytes_eq (front_word line)) (sym ask) ∙ sym asks ∙ neither))
+pub no_question_here : (line : List ℕ) (a b c : Bool) → a ≡ bytes_eq (front_word line) status_word
+    → b ≡ bytes_eq (front_word line) update_word → c ≡ bytes_eq (front_word line) (spelling keyword.Ask)
+    → a ≡ false → b ≡ false → c ≡ false → None ≡ question_in line
+no_question_here line a b c tests updates asks one two three =
+    sym (no_question line (sym tests ∙ one) (sym updates ∙ two) (sym asks ∙ three))
 
 pub no_take_here : (line word : List ℕ) (a : Bool) → a ≡ bytes_eq (front_word line) word
     → word ≡ spelling keyword.Submit → a ≡ false → None ≡ take_in line

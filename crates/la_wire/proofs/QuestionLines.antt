@@ -18,13 +18,17 @@ use Rattle.la_script.specs.Lines.{words_of, event_in}
 use Rattle.la_script.specs.Tags.{tag_of}
 use Rattle.la_wire.specs.MessageLines.{kind_word, known_word}
 use Rattle.la_wire.specs.Calls.{WireCall}
-use Rattle.la_wire.specs.CallLines.{tick_word, script_call, said_ok, named_call}
-use Rattle.la_wire.specs.Requests.{front_word}
-use Rattle.la_wire.specs.Questions.{status_word, tags_word, updates_word, take_word, at_word, status_asked}
+use Rattle.la_wire.specs.declared.updates.Verb.TheVariants as verb
+use Rattle.la_wire.specs.Updates.{verb_spelling}
+use Rattle.la_wire.specs.CallLines.{tick_word, script_call, are_own, said_ok, named_call}
+use Rattle.la_wire.specs.Joined.{front_word}
+use Rattle.la_wire.specs.Questions.{status_word, update_word, tags_word, updates_word, take_word, at_word, status_asked}
+use Rattle.la_wire.specs.Questions.{update_asked}
+use Rattle.la_wire.specs.declared.questions.Question.{Question}
 use Rattle.la_wire.specs.Questions.{question_asked, question_by, question_in, take_by, take_in, AwaitedLine}
 use Rattle.la_wire.specs.Questions.{without_at}
 use Rattle.la_wire.specs.Questions.{awaited_by, from_last, awaits, awaited_in}
-use Rattle.la_wire.proofs.FirstWords.{first_part, said_of, form_said, said_by_words}
+use Rattle.la_wire.proofs.FirstWords.{first_part, said_of, not_own, said_as_script, form_said, said_by_words}
 
 no_form : (b : Bool) (o : Option Form) → o ≡ None → cond b None o ≡ None
 no_form true o none = refl
@@ -33,8 +37,16 @@ no_form false o none = none
 -- no form begins with `status`
 no_status : (more : List (List ℕ)) → said_of (status_word ∷ more) ≡ None
 no_status more =
-    ap (λ o. said_ok (script_call (event_in (status_word ∷ more) o)))
+    said_as_script (status_word ∷ more) (not_own status_word more refl)
+    ∙ ap (λ o. said_ok (script_call (event_in (status_word ∷ more) o)))
     (no_form (has_gap (status_word ∷ more)) None refl)
+
+-- nor with `update`
+no_update : (more : List (List ℕ)) → said_of (update_word ∷ more) ≡ None
+no_update more =
+    said_as_script (update_word ∷ more) (not_own update_word more refl)
+    ∙ ap (λ o. said_ok (script_call (event_in (update_word ∷ more) o)))
+    (no_form (has_gap (update_word ∷ more)) None refl)
 
 -- a word at the place of a keyword
 is_word : (k : Keyword) (w : List ℕ) (b : Bool) → (bytes_eq w (spelling k) && b) ≡ true → w ≡ spelling k
@@ -108,6 +120,20 @@ submit_no_take form.Largest first more fit = absurd (false≢true fit)
 submit_no_take form.Has first more fit = absurd (false≢true fit)
 submit_no_take form.Size first more fit = absurd (false≢true fit)
 submit_no_take form.Items first more fit = absurd (false≢true fit)
+
+-- one of one's own
+own_no_take : (words : List (List ℕ)) → are_own words ≡ true → take_by words ≡ None
+own_no_take [] is = refl
+own_no_take (a ∷ []) is = refl
+own_no_take (a ∷ b ∷ []) is = refl
+own_no_take (a ∷ b ∷ c ∷ []) is = refl
+own_no_take (a ∷ b ∷ c ∷ w ∷ []) is = refl
+own_no_take (a ∷ b ∷ c ∷ w ∷ text ∷ []) is =
+    let own : w ≡ verb_spelling verb.Own =
+    (bytes_eq-Decides w (verb_spelling verb.Own)).0
+    (and_parts (bytes_eq a (spelling keyword.Submit)) (bytes_eq w (verb_spelling verb.Own)) is).1 in
+    third_taken a b c w (verb_spelling verb.Own) (text ∷ []) own refl
+own_no_take (a ∷ b ∷ c ∷ w ∷ text ∷ x ∷ rest) is = refl
 
 -- a take begins with `submit`
 other_no_take : (first : List ℕ) (more : List (List ℕ)) → bytes_eq first (spelling keyword.Submit) ≡ false
@@ -194,33 +220,49 @@ module _ (line : List ℕ) (c : WireCall) (says : named_call line ≡ Some c) wh
     words_say =
         sym (said_by_words line w begins other none unknown more (words ∙ ap (λ v. v ∷ more) begins)) ∙ says
 
-    fit : (f : Form) × (fits (form_places f) (w ∷ more) ≡ true)
-    fit = form_said (w ∷ more) c words_say
+    fit : are_own (w ∷ more) ≡ false → (f : Form) × (fits (form_places f) (w ∷ more) ≡ true)
+    fit script = form_said (w ∷ more) c script words_say
+
+  abbrev by_ask_alone : Option Question
+  by_ask_alone = cond (bytes_eq first (spelling keyword.Ask)) (question_asked more) None
 
   by_words : question_by (first ∷ more) ≡ None
   by_words = elim (cases_Bool (bytes_eq first status_word)) [
     | inl is ↦
         absurd (none-some c (sym (no_status more) ∙ words_say status_word is refl refl refl))
     | inr no_status ↦
-        ap (λ b. cond b (status_asked more) (cond (bytes_eq first (spelling keyword.Ask)) (question_asked more) None))
-        no_status ∙ by_ask (bytes_eq first (spelling keyword.Ask)) refl
+        ap (λ b. cond b (status_asked more) (cond (bytes_eq first update_word) (update_asked more) by_ask_alone)) no_status
+        ∙ by_update (bytes_eq first update_word) refl
   ]
     where
       by_ask : (b : Bool) → bytes_eq first (spelling keyword.Ask) ≡ b → cond b (question_asked more) None ≡ None
       by_ask true is =
-          let f = fit (spelling keyword.Ask) is refl refl refl in
+          let f = fit (spelling keyword.Ask) is refl refl refl (not_own (spelling keyword.Ask) more refl) in
           ask_no_question f.0 more f.1
       by_ask false not = refl
+
+      by_update : (b : Bool) → bytes_eq first update_word ≡ b → cond b (update_asked more) by_ask_alone ≡ None
+      by_update true is = absurd (none-some c (sym (no_update more) ∙ words_say update_word is refl refl refl))
+      by_update false not = by_ask (bytes_eq first (spelling keyword.Ask)) refl
 
   pub call_no_question : question_in line ≡ None
   unfolding question_in
   call_no_question = ap question_by words ∙ by_words
 
+  submission_no_take : bytes_eq first (spelling keyword.Submit) ≡ true → take_by (first ∷ more) ≡ None
+  submission_no_take is = elim (cases_Bool (are_own (spelling keyword.Submit ∷ more))) [
+    | inl own ↦
+        ap (λ v. take_by (v ∷ more)) (begins (spelling keyword.Submit) is refl refl refl)
+        ∙ own_no_take (spelling keyword.Submit ∷ more) own
+    | inr script ↦
+        let f = fit (spelling keyword.Submit) is refl refl refl script in submit_no_take f.0 first more f.1
+  ]
+
   pub call_no_take : take_in line ≡ None
   unfolding take_in
   call_no_take = ap take_by words ∙ (
       elim (cases_Bool (bytes_eq first (spelling keyword.Submit))) [
-        | inl is ↦ let f = fit (spelling keyword.Submit) is refl refl refl in submit_no_take f.0 first more f.1
+        | inl is ↦ submission_no_take is
         | inr not ↦ other_no_take first more not
       ]
       )
@@ -230,7 +272,7 @@ module _ (line : List ℕ) (c : WireCall) (says : named_call line ≡ Some c) wh
   call_waits_not = ap (awaited_on line) words ∙ (
       elim (cases_Bool (bytes_eq first (spelling keyword.Ask))) [
         | inl is ↦
-            let f = fit (spelling keyword.Ask) is refl refl refl in
+            let f = fit (spelling keyword.Ask) is refl refl refl (not_own (spelling keyword.Ask) more refl) in
             ap (λ v. awaited_on line (v ∷ more)) ((bytes_eq-Decides first (spelling keyword.Ask)).0 is)
             ∙ ask_waits_not f.0 line more f.1
         | inr not ↦

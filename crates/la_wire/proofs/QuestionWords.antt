@@ -9,7 +9,7 @@ use Rattle.la_script.specs.declared.forms.Keyword.TheVariants as keyword
 use Rattle.la_script.specs.Forms.{spelling}
 use Rattle.la_script.specs.Lines.{words_of}
 use Rattle.la_script.specs.Words.{bytes_of}
-use Rattle.la_wire.specs.Questions.{tags_word, at_word, question_asked, take_by, awaited_by, from_last, awaits}
+use Rattle.la_wire.specs.Questions.{tags_word, at_word, question_asked, update_asked, take_by, awaited_by, from_last, awaits}
 use Rattle.la_wire.specs.Questions.{awaited_in}
 
 -- of other numbers of words
@@ -31,6 +31,12 @@ other_question (a ∷ b ∷ []) x four not = absurd (omega (arith, four))
 other_question (a ∷ b ∷ c ∷ []) x four not = absurd (omega (arith, four))
 other_question (a ∷ b ∷ c ∷ d ∷ []) x four not = rw not refl
 other_question (a ∷ b ∷ c ∷ d ∷ e ∷ ws) x four not = absurd (omega (arith, four))
+
+pub no_update : (ws : List (Bor (List ℕ))) → (length ws ≡ 2 → ⊥) → None ≡ update_asked (bytes_of ws)
+no_update [] two = refl
+no_update (a ∷ []) two = refl
+no_update (a ∷ b ∷ []) two = absurd (two refl)
+no_update (a ∷ b ∷ c ∷ ws) two = refl
 
 pub no_take : (ws : List (Bor (List ℕ))) → (length ws ≡ 5 → ⊥) → None ≡ take_by (bytes_of ws)
 no_take [] five = refl

@@ -18,12 +18,13 @@ use Rattle.la_script.specs.Lines.{words_of}
 use Rattle.la_script.specs.Numbers.{u8_max, u16_max, u64_max, number}
 use Rattle.la_script.specs.Text.{id_text}
 use Rattle.la_wire.specs.declared.questions.Question.{Question}
-use Rattle.la_wire.specs.declared.questions.Question.TheVariants.{Tags, Updates, Status}
+use Rattle.la_wire.specs.declared.questions.Question.TheVariants.{Tags, Updates, Update, Status}
 use Rattle.la_wire.specs.declared.questions.Take.{Take}
 use Rattle.la_wire.specs.Joined.{joined_by}
-use Rattle.la_wire.specs.Requests.{front_word}
+use Rattle.la_wire.specs.Joined.{front_word}
 use Rattle.la_wire.specs.Writable.{IsId}
-use Rattle.la_wire.specs.Questions.{status_word, tags_word, updates_word, take_word, at_word, question_by, question_in}
+use Rattle.la_wire.specs.Questions.{status_word, update_word, tags_word, updates_word, take_word, at_word, question_by}
+use Rattle.la_wire.specs.Questions.{question_in}
 use Rattle.la_wire.specs.Questions.{taker_by, taker_of, take_by, take_in, without_at, awaited_by, from_last}
 use Rattle.la_wire.specs.Questions.{awaits, awaited_in, question_text, taker_text, take_text, IsQuestion, IsTakeNumber}
 use Rattle.la_wire.specs.Questions.{IsTake}
@@ -75,6 +76,12 @@ question-back (Updates r o) is =
     (four-back (spelling keyword.Ask) (decimal r) (decimal o) updates_word [] refl
     (plain-number r (omega (arith, is.0))) (plain-number o (omega (arith, is.1))) refl (All-nil IsPlain))
     ∙ rw (replica-back r is.0, object-back o is.1) refl
+question-back (Update r id) is =
+    ap question_by
+    (words-back update_word (decimal r ∷ id_text id ∷ []) (AllPass-from_list_all is_plain update_word refl)
+    (All-cons IsPlain (decimal r) (id_text id ∷ []) (plain-number r (omega (arith, is.0)))
+    (All-cons IsPlain (id_text id) [] (id-plain id (typed-id id is.1)) (All-nil IsPlain))))
+    ∙ rw (replica-back r is.0, id-back id is.1) refl
 question-back (Status r) is =
     ap question_by
     (words-back status_word (decimal r ∷ []) (AllPass-from_list_all is_plain status_word refl)

@@ -21,7 +21,10 @@ use Rattle.la_wire.specs.declared.error.LineFault.TheVariants.{BadLine, BadNumbe
 use Rattle.la_wire.specs.declared.messages.Kind.{Kind}
 use Rattle.la_wire.specs.Joined.{parted}
 use Rattle.la_wire.specs.Readings.{◌>>=◌, or_line_fault, with_rest, first_number}
-use Rattle.la_wire.specs.Updates.{made, line_tags, op_words, op_at, op_in, update_words, update_text, update_in}
+use Rattle.la_own.specs.Own.{bytes_of as own_bytes_of}
+use Rattle.la_own.proofs.Reading.{bytes_of-made}
+use Rattle.la_wire.specs.Updates.{made, line_tags, remove_words, op_words, op_at, op_in, update_words, update_text}
+use Rattle.la_wire.specs.Updates.{update_in}
 use Rattle.la_wire.specs.Updates.{updates_in}
 use Rattle.la_wire.specs.Messages.{WireMessage, WireBody, Offer, Yes, No, Tell}
 use Rattle.la_wire.specs.MessageLines.{base_word, counts_text, kind_in, base_words, carried, message_text}
@@ -30,6 +33,7 @@ use Rattle.la_wire.specs.Calls.{Receive}
 use Rattle.la_wire.specs.CallLines.{said_ok, named_call}
 use Rattle.la_wire.specs.Writable.{IsIdFrom, IsOpFrom, IsUpdateFrom, IsBodyFrom, IsCounts, IsId, IsOp, IsUpdate, IsBody}
 use Rattle.la_wire.specs.Writable.{IsMessage, IsTypedMessage}
+use Rattle.la_wire.proofs.OwnTexts.{own-ids}
 use Rattle.la_wire.proofs.Ids.{id-parts}
 use Rattle.la_wire.proofs.UpdatesBack.{op-left, update-line, update-back}
 use Rattle.la_wire.proofs.MessagesBack.{behind, base-back, body-left, line-read, message-back}
@@ -114,16 +118,23 @@ ids-read (id ∷ ids) all some =
 
 -- ## Updates
 
+remove-read : (tags : List UpdateId) (o : Option (List ℕ)) → own_bytes_of (Remove tags) ≡ o → IsOpFrom 0 (Remove tags)
+    → IsOk (op_in (remove_words tags o)) → IsOp (Remove tags)
+unfolding op_at
+remove-read tags None none is ok =
+    let words : List (List ℕ) = map id_text tags in
+    let some : IsSome (tag_words words) = some-if _ (tag_words words) (made-ok Remove (line_tags words) ok) in
+    (is.0, ids-read tags is.1 (map-some (with_tags []) (each_word tag_of words) some))
+remove-read tags (Some bytes) some is ok =
+    let made = bytes_of-made (Remove tags) bytes some in (is.0, own-ids 1 tags bytes (omega arith) made.0 made.1)
+
 op-read : (op : Op) → IsOpFrom 0 op → IsOk (op_in (op_words op)) → IsOp op
 unfolding op_at
 op-read (Inc x) is ok = is
 op-read (Dec x) is ok = is
 op-read (Raise x) is ok = is
 op-read (Put x) is ok = is
-op-read (Remove tags) is ok =
-    let words : List (List ℕ) = map id_text tags in
-    let some : IsSome (tag_words words) = some-if _ (tag_words words) (made-ok Remove (line_tags words) ok) in
-    (is.0, ids-read tags is.1 (map-some (with_tags []) (each_word tag_of words) some))
+op-read (Remove tags) is ok = remove-read tags (own_bytes_of (Remove tags)) refl is ok
 op-read Mark is ok = is
 op-read (Vote x sole) is ok = is
 

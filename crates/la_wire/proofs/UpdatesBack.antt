@@ -1,5 +1,6 @@
 -- Updates are read back from their parts.
-use Rattle.std.proofs.Common.{◌≡◌, ℕ, ◌≤◌, true, false, List, [], ◌∷◌, length, map, All, Some, Ok, refl, ap, ◌∙◌, arith}
+use Rattle.std.proofs.Common.{◌≡◌, ℕ, ◌≤◌, true, false, List, [], ◌∷◌, length, map, All, Option, Some, None, Ok, refl, sym}
+use Rattle.std.proofs.Common.{ap, ◌∙◌, arith}
 use Rattle.std.specs.Fmt.{decimal}
 use Rattle.std.proofs.lemmas.Bool.{le-leb}
 use Rattle.std.proofs.lemmas.List.{length-map}
@@ -9,6 +10,8 @@ use Rattle.la_set.specs.declared.update.UpdateId.{UpdateId}
 use Rattle.la_set.specs.declared.update.Update.{Update}
 use Rattle.la_set.specs.declared.update.Op.{Op}
 use Rattle.la_set.specs.declared.update.Op.TheVariants.{Inc, Dec, Raise, Put, Remove, Mark, Vote}
+use Rattle.la_own.specs.Own.{bytes_of as own_bytes_of}
+use Rattle.la_own.proofs.Reading.{bytes_of-made}
 use Rattle.la_script.specs.Numbers.{u16_max, u32_max, u64_max, number}
 use Rattle.la_script.specs.Tags.{tag_of, tag_words}
 use Rattle.la_script.specs.Text.{id_text}
@@ -16,11 +19,13 @@ use Rattle.la_wire.specs.declared.updates.Verb.{Verb}
 use Rattle.la_wire.specs.declared.updates.Verb.TheVariants as verb
 use Rattle.la_wire.specs.Joined.{parted}
 use Rattle.la_wire.specs.Readings.{◌>>=◌}
-use Rattle.la_wire.specs.Updates.{update_words, verb_spelling, vote_verb, op_words, update_text, line_tags, op_at, op_in, update_in, updates_in}
+use Rattle.la_wire.specs.Updates.{update_words, verb_spelling, vote_verb, own_text, remove_words, op_words, update_text}
+use Rattle.la_wire.specs.Updates.{line_tags, op_at, op_in, update_in, updates_in}
 use Rattle.la_wire.specs.Writable.{IsIdFrom, IsOpFrom, IsUpdateFrom, IsId, IsOp, IsUpdate}
 use Rattle.la_wire.proofs.Decimals.{number-decimal, decimal-plain, is_plain, IsPlain}
 use Rattle.la_wire.proofs.Joins.{Lacks, words-back, words-part}
 use Rattle.la_wire.proofs.Typed.{typed-update}
+use Rattle.la_wire.proofs.OwnTexts.{own-text-back, own-plain}
 use Rattle.la_wire.proofs.Ids.{id-plain, id-back, tags-back}
 
 tags_at-back : (tags : List UpdateId) → length tags ≤ 64 → tag_words (map id_text tags) ≡ Some tags
@@ -28,13 +33,21 @@ tags_at-back : (tags : List UpdateId) → length tags ≤ 64 → tag_words (map 
 tags_at-back tags few back =
     rw (le-leb (length (map id_text tags)) 64 (omega (arith, length-map tags id_text)), back) refl
 
+remove-back : (tags : List UpdateId) (o : Option (List ℕ)) → own_bytes_of (Remove tags) ≡ o → IsOp (Remove tags)
+    → op_in (remove_words tags o) ≡ Ok (Remove tags)
+unfolding op_at
+remove-back tags None none is = rw (tags_at-back tags is.0.within (tags-back tags is.0.ascending is.1)) refl
+remove-back tags (Some bytes) some is =
+    let made = bytes_of-made (Remove tags) bytes some in
+    own-text-back bytes made.0 ∙ ap Ok (sym made.1)
+
 pub op-back : (op : Op) → IsOp op → op_in (op_words op) ≡ Ok op
 unfolding op_at
 op-back (Inc x) is = rw (number-decimal 0 u32_max x (omega arith) is (omega arith)) refl
 op-back (Dec x) is = rw (number-decimal 0 u32_max x (omega arith) is (omega arith)) refl
 op-back (Raise x) is = rw (number-decimal 0 u64_max x (omega arith) is (omega arith)) refl
 op-back (Put x) is = rw (number-decimal 0 u64_max x (omega arith) is (omega arith)) refl
-op-back (Remove tags) is = rw (tags_at-back tags is.0.within (tags-back tags is.0.ascending is.1)) refl
+op-back (Remove tags) is = remove-back tags (own_bytes_of (Remove tags)) refl is
 op-back Mark is = refl
 op-back (Vote x true) is = rw (number-decimal 0 u64_max x (omega arith) is (omega arith)) refl
 op-back (Vote x false) is = rw (number-decimal 0 u64_max x (omega arith) is (omega arith)) refl
@@ -60,18 +73,27 @@ verb-plain verb.Dec = AllPass-from_list_all is_plain (verb_spelling verb.Dec) re
 verb-plain verb.Raise = AllPass-from_list_all is_plain (verb_spelling verb.Raise) refl
 verb-plain verb.Put = AllPass-from_list_all is_plain (verb_spelling verb.Put) refl
 verb-plain verb.Remove = AllPass-from_list_all is_plain (verb_spelling verb.Remove) refl
+verb-plain verb.Own = AllPass-from_list_all is_plain (verb_spelling verb.Own) refl
 verb-plain verb.Mark = AllPass-from_list_all is_plain (verb_spelling verb.Mark) refl
 verb-plain verb.Vote = AllPass-from_list_all is_plain (verb_spelling verb.Vote) refl
 verb-plain verb.Sole = AllPass-from_list_all is_plain (verb_spelling verb.Sole) refl
+
+remove-plain : (tags : List UpdateId) (o : Option (List ℕ)) → own_bytes_of (Remove tags) ≡ o → IsOpFrom 0 (Remove tags)
+    → All IsPlain (remove_words tags o)
+remove-plain tags None none is =
+    All-cons IsPlain (verb_spelling verb.Remove) (map id_text tags) (verb-plain verb.Remove)
+    (All-map IsPlain id_text tags (All-weaker (IsIdFrom 0) (λ id. IsPlain (id_text id)) id-plain tags is.1))
+remove-plain tags (Some bytes) some is =
+    All-cons IsPlain (verb_spelling verb.Own) (own_text bytes ∷ []) (verb-plain verb.Own)
+    (All-cons IsPlain (own_text bytes) [] (own-plain bytes (bytes_of-made (Remove tags) bytes some).0)
+    (All-nil IsPlain))
 
 pub op-plain : (op : Op) → IsOpFrom 0 op → All IsPlain (op_words op)
 op-plain (Inc x) is = one-number (verb_spelling verb.Inc) x (verb-plain verb.Inc) (omega arith)
 op-plain (Dec x) is = one-number (verb_spelling verb.Dec) x (verb-plain verb.Dec) (omega arith)
 op-plain (Raise x) is = one-number (verb_spelling verb.Raise) x (verb-plain verb.Raise) is
 op-plain (Put x) is = one-number (verb_spelling verb.Put) x (verb-plain verb.Put) is
-op-plain (Remove tags) is =
-    All-cons IsPlain (verb_spelling verb.Remove) (map id_text tags) (verb-plain verb.Remove)
-    (All-map IsPlain id_text tags (All-weaker (IsIdFrom 0) (λ id. IsPlain (id_text id)) id-plain tags is.1))
+op-plain (Remove tags) is = remove-plain tags (own_bytes_of (Remove tags)) refl is
 op-plain Mark is = All-cons IsPlain (verb_spelling verb.Mark) [] (verb-plain verb.Mark) (All-nil IsPlain)
 op-plain (Vote x sole) is = one-number (verb_spelling (vote_verb sole)) x (verb-plain (vote_verb sole)) is
 

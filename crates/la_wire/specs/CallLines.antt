@@ -1,5 +1,5 @@
 -- A call as a line: a message, `tick`, or an event of a script of version 2 that is no delivery.
-use Rattle.std.specs.Prelude.{ℕ, Bool, true, not, ◌&&◌, List, [], ◌∷◌, codes, Option, Some, None}
+use Rattle.std.specs.Prelude.{ℕ, Bool, true, false, not, ◌&&◌, List, [], ◌∷◌, codes, Option, Some, None}
 use Rattle.std.specs.Prelude.{Result, Ok, Err, ◌==◌, if◌then◌else◌}
 use Rattle.std.specs.List.{before_first, list_all}
 use Rattle.std.specs.Fmt.{decimal}
@@ -12,14 +12,17 @@ use Rattle.la_script.specs.declared.error.FaultName.{FaultName}
 use Rattle.la_script.specs.declared.error.FaultName.TheVariants as script
 use Rattle.la_script.specs.declared.forms.Keyword.TheVariants as keyword
 use Rattle.la_script.specs.declared.script.Version.TheVariants.{Two}
-use Rattle.la_script.specs.Forms.{spelling}
-use Rattle.la_script.specs.Lines.{line_event}
+use Rattle.la_script.specs.Forms.{spelling, form_of}
+use Rattle.la_script.specs.Lines.{words_of, event_in}
 use Rattle.la_wire.specs.declared.error.LineFault.{LineFault}
 use Rattle.la_wire.specs.declared.error.LineFault.TheVariants.{TooLong, BadLine, BadNumber}
 use Rattle.la_wire.specs.declared.messages.Kind.{Kind}
+use Rattle.la_wire.specs.declared.updates.Verb.TheVariants as verb
+use Rattle.la_script.specs.Numbers.{u8_max, u16_max}
 use Rattle.la_io.specs.Limits.{is_too_long}
-use Rattle.la_wire.specs.Joined.{joined_by, parted}
-use Rattle.la_wire.specs.Updates.{made, op_words}
+use Rattle.la_wire.specs.Joined.{joined_by, parted, front_word, behind_word}
+use Rattle.la_wire.specs.Updates.{verb_spelling, made, op_words, own_on}
+use Rattle.la_wire.specs.Readings.{◌>>=◌, number_on}
 use Rattle.la_wire.specs.MessageLines.{kind_word, message_text, line_message, known_word, standing_text, standing_in}
 use Rattle.la_wire.specs.Calls.{WireCall, Submit, Decide, Ask, Tick, Receive, Known}
 
@@ -65,6 +68,37 @@ abbrev pub script_call : Result Event FaultName → Result WireCall LineFault
 script_call (Ok event) = event_call event
 script_call (Err name) = Err (fault_of name)
 
+abbrev pub script_words : List (List ℕ) → Result WireCall LineFault
+script_words words = script_call (event_in words (form_of Two words))
+
+-- a submission of an operation of one's own, by three words behind `submit` and `own`
+abbrev pub own_call : (replica object text : List ℕ) → Result WireCall LineFault
+own_call replica object text = do
+  r ← number_on 0 u8_max replica
+  o ← number_on 0 u16_max object
+  does ← own_on text
+  Ok (Submit r o does)
+
+-- whether a line's fourth word is `own`, and its first `submit`
+abbrev pub may_be_own : List ℕ → Bool
+may_be_own line =
+    bytes_eq (front_word line) (spelling keyword.Submit)
+    && bytes_eq (front_word (behind_word (behind_word (behind_word line)))) (verb_spelling verb.Own)
+
+-- five words, of which the first is `submit`, and the fourth `own`
+abbrev pub are_own : List (List ℕ) → Bool
+are_own (first ∷ replica ∷ object ∷ word ∷ text ∷ []) =
+    bytes_eq first (spelling keyword.Submit) && bytes_eq word (verb_spelling verb.Own)
+are_own _ = false
+
+abbrev pub own_words_call : List (List ℕ) → Result WireCall LineFault
+own_words_call (first ∷ replica ∷ object ∷ word ∷ text ∷ []) = own_call replica object text
+own_words_call _ = Err BadLine
+
+-- what words say that are no message and not `tick`: such a submission, or else an event of a script
+abbrev pub words_call : List (List ℕ) → Result WireCall LineFault
+words_call words = if are_own words then own_words_call words else script_words words
+
 -- the kind of message that a line's first word is
 abbrev pub first_kind : List ℕ → Option Kind
 first_kind line = kind_word (before_first (λ b. b == 32) line)
@@ -83,7 +117,7 @@ known_call line = known_by (parted 32 line)
 
 abbrev pub call_by : Option Kind → List ℕ → Result WireCall LineFault
 call_by (Some kind) line = made Receive (line_message line)
-call_by None line = if is_known line then known_call line else script_call (line_event Two line)
+call_by None line = if is_known line then known_call line else words_call (words_of line)
 
 -- the call that a line says, or its first fault
 unfoldable pub call_of : List ℕ → Result WireCall LineFault

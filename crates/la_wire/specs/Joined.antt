@@ -1,6 +1,6 @@
 -- Texts put one behind another, with a byte between them.
 use Rattle.std.specs.Prelude.{ℕ, List, [], ◌∷◌, ◌++◌, ◌==◌}
-use Rattle.std.specs.List.{slice_split}
+use Rattle.std.specs.List.{slice_split, before_first, after_first}
 
 -- each part with the byte before it
 abbrev pub spaced : (byte : ℕ) → List (List ℕ) → List ℕ
@@ -15,3 +15,10 @@ joined_by byte (part ∷ parts) = part ++ spaced byte parts
 -- what stands between the bytes
 abbrev pub parted : (byte : ℕ) → List ℕ → List (List ℕ)
 parted byte line = slice_split (λ b. b == byte) line
+
+-- a line's first word, and what stands behind it
+abbrev pub front_word : List ℕ → List ℕ
+front_word line = before_first (λ b. b == 32) line
+
+abbrev pub behind_word : List ℕ → List ℕ
+behind_word line = after_first (λ b. b == 32) line

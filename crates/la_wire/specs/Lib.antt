@@ -7,6 +7,7 @@ pub mod Calls
 pub mod CallLines
 pub mod Requests
 pub mod Questions
+pub mod Wrongs
 pub mod Writable
 pub mod Tests
 pub mod Notes

@@ -1,8 +1,9 @@
 -- Lines that a node writes: letters, and notes, which begin with `#`. Each ends with LF.
-use Rattle.std.specs.Prelude.{ℕ, List, [], ◌∷◌, ◌++◌, map, codes}
+use Rattle.std.specs.Prelude.{ℕ, List, [], ◌∷◌, ◌++◌, map, codes, Option}
 use Rattle.std.specs.List.{flat_map}
 use Rattle.std.specs.Fmt.{decimal}
 use Rattle.la_set.specs.declared.counts.Counts.{Counts}
+use Rattle.la_set.specs.declared.update.Update.{Update}
 use Rattle.la_set.specs.declared.update.UpdateId.{UpdateId}
 use Rattle.la_commit.specs.declared.outcome.Outcome.{Outcome}
 use Rattle.la_commit.specs.declared.outcome.Outcome.TheVariants.{Commit, Adopt}
@@ -17,7 +18,9 @@ use Rattle.la_wire.specs.Joined.{spaced}
 use Rattle.la_wire.specs.Messages.{letter_message}
 use Rattle.la_wire.specs.MessageLines.{count_words, message_text, standing_text}
 use Rattle.la_wire.specs.Requests.{name_words}
-use Rattle.la_wire.specs.Questions.{tags_word, updates_word}
+use Rattle.la_wire.specs.Questions.{update_word, tags_word, updates_word}
+use Rattle.la_wire.specs.Updates.{update_words}
+use Rattle.la_wire.specs.Wrongs.{WrongPart, part_text}
 
 -- ## Notes
 
@@ -73,6 +76,10 @@ abbrev pub updates_note : (own object : ℕ) → Counts → (name : List ℕ) �
 updates_note own object counts name =
     answering_note own name (codes "answered" ∷ decimal object ∷ updates_word ∷ count_words counts)
 
+-- an update of the view
+abbrev pub update_note : (own : ℕ) → Update → (name : List ℕ) → List ℕ
+update_note own u name = answering_note own name (update_word ∷ update_words u)
+
 -- what was asked waits for an update
 abbrev pub waiting_note : (own : ℕ) → (after : UpdateId) → (name : List ℕ) → List ℕ
 waiting_note own after name = answering_note own name (codes "waiting" ∷ id_text after ∷ [])
@@ -86,10 +93,11 @@ fault_name line.TooLong = codes "TooLong"
 fault_name line.BadLine = codes "BadLine"
 fault_name line.BadNumber = codes "BadNumber"
 
--- what is told on standard error of a line that has a fault
-abbrev pub line_fault_line : (number : ℕ) → LineFault → (name : List ℕ) → List ℕ
-line_fault_line number fault name =
-    codes "line " ++ decimal number ++ codes ": " ++ fault_name fault ++ spaced 32 (name_words name) ++ 10 ∷ []
+-- what is told on standard error of a line that has a fault, with the part that is wrong
+abbrev pub line_fault_line : (number : ℕ) → LineFault → Option WrongPart → (name : List ℕ) → List ℕ
+line_fault_line number fault wrong name =
+    codes "line " ++ decimal number ++ codes ": " ++ fault_name fault ++ part_text wrong ++ spaced 32 (name_words name) ++
+    10 ∷ []
 
 -- ## Letters
 

@@ -12,15 +12,19 @@ use Rattle.la_script.specs.Numbers.{u8_max, u16_max, u32_max, u64_max, number}
 use Rattle.la_script.specs.Tags.{tag_of}
 use Rattle.la_script.specs.Text.{id_text}
 use Rattle.la_wire.specs.declared.questions.Question.{Question}
-use Rattle.la_wire.specs.declared.questions.Question.TheVariants.{Tags, Updates, Status}
+use Rattle.la_wire.specs.declared.questions.Question.TheVariants.{Tags, Updates, Update, Status}
 use Rattle.la_wire.specs.declared.questions.Take.{Take}
 use Rattle.la_wire.specs.declared.questions.Awaited.{Awaited}
 use Rattle.la_wire.specs.Joined.{joined_by}
+use Rattle.la_wire.specs.Writable.{IsId}
 
 -- ## The words that no script has
 
 abbrev pub status_word : List ℕ
 status_word = codes "status"
+
+abbrev pub update_word : List ℕ
+update_word = codes "update"
 
 abbrev pub tags_word : List ℕ
 tags_word = codes "tags"
@@ -60,13 +64,24 @@ abbrev pub status_asked : List (List ℕ) → Option Question
 status_asked (replica ∷ []) = option_map Status (number 0 u8_max replica)
 status_asked _ = None
 
+-- which update has an id
+abbrev pub update_question : (replica : Option ℕ) → (id : Option UpdateId) → Option Question
+update_question (Some r) (Some id) = Some (Update r id)
+update_question _ _ = None
+
+-- by the words behind `update`
+abbrev pub update_asked : List (List ℕ) → Option Question
+update_asked (replica ∷ id ∷ []) = update_question (number 0 u8_max replica) (tag_of id)
+update_asked _ = None
+
 abbrev pub question_by : List (List ℕ) → Option Question
 question_by [] = None
 question_by (word ∷ words) =
     if bytes_eq word status_word then status_asked words else
+    if bytes_eq word update_word then update_asked words else
     if bytes_eq word (spelling keyword.Ask) then question_asked words else None
 
--- the question that a line is: `ask R O tags X`, `ask R O updates` or `status R`
+-- the question that a line is: `ask R O tags X`, `ask R O updates`, `update R P.N` or `status R`
 unfoldable pub question_in : List ℕ → Option Question
 question_in line = question_by (words_of line)
 
@@ -132,6 +147,7 @@ abbrev pub question_text : Question → List ℕ
 question_text (Tags r o x) =
     joined_by 32 (spelling keyword.Ask ∷ decimal r ∷ decimal o ∷ tags_word ∷ decimal x ∷ [])
 question_text (Updates r o) = joined_by 32 (spelling keyword.Ask ∷ decimal r ∷ decimal o ∷ updates_word ∷ [])
+question_text (Update r id) = joined_by 32 (update_word ∷ decimal r ∷ id_text id ∷ [])
 question_text (Status r) = joined_by 32 (status_word ∷ decimal r ∷ [])
 
 -- who takes, as a word
@@ -150,6 +166,7 @@ take_text t =
 abbrev pub IsQuestion : Question → Type 0
 IsQuestion (Tags r o x) = (r ≤ u8_max) × (o ≤ u16_max) × (x ≤ u64_max)
 IsQuestion (Updates r o) = (r ≤ u8_max) × (o ≤ u16_max)
+IsQuestion (Update r id) = (r ≤ u8_max) × IsId id
 IsQuestion (Status r) = r ≤ u8_max
 
 -- an update's number, from 1, where there is one

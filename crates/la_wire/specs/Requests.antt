@@ -3,7 +3,7 @@
 -- is to have.
 use Rattle.std.specs.Prelude.{⊤, ℕ, ◌+◌, ◌-◌, nat_le, ◌==◌, Bool, not, ◌&&◌, ◌||◌, List, [], ◌∷◌, ◌++◌, length, take}
 use Rattle.std.specs.Prelude.{drop, position, slice_index_or, Option, Some, None, option_map, if◌then◌else◌}
-use Rattle.std.specs.List.{list_all, before_first, after_first}
+use Rattle.std.specs.List.{list_all, before_first}
 use Rattle.std.specs.Option.{is_some}
 use Rattle.std.specs.Char.{is_ascii_alphanumeric}
 use Rattle.std.specs.Fmt.{decimal}
@@ -16,7 +16,7 @@ use Rattle.la_script.specs.Tags.{tag_of}
 use Rattle.la_script.specs.Text.{id_text}
 use Rattle.la_wire.specs.declared.requests.TheConstants.{MAX_NAME}
 use Rattle.la_wire.specs.declared.requests.NumberedCall.{NumberedCall}
-use Rattle.la_wire.specs.Joined.{joined_by}
+use Rattle.la_wire.specs.Joined.{joined_by, front_word, behind_word}
 use Rattle.la_wire.specs.Updates.{op_words}
 use Rattle.la_wire.specs.Calls.{WireCall, Submit}
 use Rattle.la_wire.specs.CallLines.{first_kind, is_known}
@@ -77,13 +77,6 @@ pub record NumberedLine : Type 0 where
 
 abbrev pub numbered_line : NumberedCall → NumberedLine
 numbered_line c = record { number = c.number; plain = c.plain.items }
-
--- a line's first word, and what stands behind it
-abbrev pub front_word : List ℕ → List ℕ
-front_word line = before_first (λ b. b == 32) line
-
-abbrev pub behind_word : List ℕ → List ℕ
-behind_word line = after_first (λ b. b == 32) line
 
 -- a submission by this word, of an object and with an operation that the rest says
 abbrev pub submission_line : (word rest : List ℕ) → List ℕ

@@ -13,6 +13,10 @@ use Rattle.la_script.specs.Forms.{spelling as word_of}
 use Rattle.la_script.specs.Text.{id_text}
 use Rattle.la_script.specs.Tags.{tag_words}
 use Rattle.la_script.specs.Numbers.{u16_max, u32_max, u64_max}
+use Rattle.la_own.specs.Own.{own, bytes_of as own_bytes_of}
+use Rattle.la_own.specs.declared.own.TheConstants.{OWN_BYTES}
+use Rattle.hex.specs.Hex.{encode_lower, decode_of}
+use Rattle.hex.specs.declared.error.FromHexError.{FromHexError}
 use Rattle.la_wire.specs.declared.error.LineFault.{LineFault}
 use Rattle.la_wire.specs.declared.error.LineFault.TheVariants.{BadLine, BadNumber}
 use Rattle.la_wire.specs.declared.updates.Verb.{Verb}
@@ -29,6 +33,7 @@ verb_spelling verb.Dec = word_of keyword.Dec
 verb_spelling verb.Raise = word_of keyword.Raise
 verb_spelling verb.Put = word_of keyword.Put
 verb_spelling verb.Remove = word_of keyword.Remove
+verb_spelling verb.Own = codes "own"
 verb_spelling verb.Mark = word_of keyword.Mark
 verb_spelling verb.Vote = codes "vote"
 verb_spelling verb.Sole = codes "sole"
@@ -37,13 +42,23 @@ abbrev pub vote_verb : (sole : Bool) → Verb
 vote_verb true = verb.Sole
 vote_verb false = verb.Vote
 
+-- no bytes are `-`, any others hexadecimal digits, two for each
+abbrev pub own_text : List ℕ → List ℕ
+own_text [] = codes "-"
+own_text (b ∷ bytes) = encode_lower (b ∷ bytes)
+
+-- a remove, which is one of one's own where these are its bytes
+abbrev pub remove_words : List UpdateId → Option (List ℕ) → List (List ℕ)
+remove_words tags (Some bytes) = verb_spelling verb.Own ∷ own_text bytes ∷ []
+remove_words tags None = verb_spelling verb.Remove ∷ map id_text tags
+
 -- a vote for a value that its voter saw alone is `sole`
 abbrev pub op_words : Op → List (List ℕ)
 op_words (op.Inc x) = verb_spelling verb.Inc ∷ decimal x ∷ []
 op_words (op.Dec x) = verb_spelling verb.Dec ∷ decimal x ∷ []
 op_words (op.Raise x) = verb_spelling verb.Raise ∷ decimal x ∷ []
 op_words (op.Put x) = verb_spelling verb.Put ∷ decimal x ∷ []
-op_words (op.Remove tags) = verb_spelling verb.Remove ∷ map id_text tags
+op_words (op.Remove tags) = remove_words tags (own_bytes_of (op.Remove tags))
 op_words op.Mark = verb_spelling verb.Mark ∷ []
 op_words (op.Vote x sole) = verb_spelling (vote_verb sole) ∷ decimal x ∷ []
 
@@ -63,6 +78,7 @@ verb_of word =
     if bytes_eq word (verb_spelling verb.Raise) then Some verb.Raise else
     if bytes_eq word (verb_spelling verb.Put) then Some verb.Put else
     if bytes_eq word (verb_spelling verb.Remove) then Some verb.Remove else
+    if bytes_eq word (verb_spelling verb.Own) then Some verb.Own else
     if bytes_eq word (verb_spelling verb.Mark) then Some verb.Mark else
     if bytes_eq word (verb_spelling verb.Vote) then Some verb.Vote else
     if bytes_eq word (verb_spelling verb.Sole) then Some verb.Sole else None
@@ -76,6 +92,25 @@ only_number high _ = Err BadLine
 abbrev pub line_tags : List (List ℕ) → Result (List UpdateId) LineFault
 line_tags words = if nat_le (length words) MAX_TAGS then or_line_fault BadNumber (tag_words words) else Err BadLine
 
+-- the operation of one's own of these bytes, where they are no more than one may have
+abbrev pub own_made : List ℕ → Result Op LineFault
+own_made bytes = if nat_le (length bytes) OWN_BYTES then Ok (own bytes) else Err BadNumber
+
+abbrev pub own_decoded : Result (List ℕ) FromHexError → Result Op LineFault
+own_decoded (Ok bytes) = own_made bytes
+own_decoded (Err e) = Err BadNumber
+
+-- that a word says: `-`, or two hexadecimal digits for each byte
+abbrev pub own_on : List ℕ → Result Op LineFault
+own_on word =
+    if bytes_eq word (codes "-") then Ok (own []) else
+    if nat_le 1 (length word) then own_decoded (decode_of word) else Err BadNumber
+
+-- and nothing behind it
+abbrev pub only_own : List (List ℕ) → Result Op LineFault
+only_own (word ∷ []) = own_on word
+only_own _ = Err BadLine
+
 abbrev pub made : {A B : Type 0} → (A → B) → Result A LineFault → Result B LineFault
 made make (Ok x) = Ok (make x)
 made make (Err fault) = Err fault
@@ -87,6 +122,7 @@ op_at verb.Dec words = made op.Dec (only_number u32_max words)
 op_at verb.Raise words = made op.Raise (only_number u64_max words)
 op_at verb.Put words = made op.Put (only_number u64_max words)
 op_at verb.Remove words = made op.Remove (line_tags words)
+op_at verb.Own words = only_own words
 op_at verb.Mark words = made (λ end. op.Mark) (at_end words)
 op_at verb.Vote words = made (λ value. op.Vote value false) (only_number u64_max words)
 op_at verb.Sole words = made (λ value. op.Vote value true) (only_number u64_max words)

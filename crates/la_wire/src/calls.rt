@@ -2,13 +2,18 @@
 ghost use Rattle.std.specs.Prelude.{◌≡◌, ◌==◌, Ok, Some, IfOk, option_map};
 ghost use Rattle.std.specs.List.{before_first};
 ghost use Rattle.la_script.specs.declared.script.Version.TheVariants.{Two};
-ghost use Rattle.la_script.specs.Lines.{line_event};
+ghost use Rattle.la_script.specs.Lines.{words_of, line_event};
 ghost use Rattle.la_wire.specs.Readings.{GivesOnLine};
 ghost use Rattle.la_wire.specs.Calls.{called};
 ghost use Rattle.la_wire.specs.CallLines.{event_call, fault_of, script_call, first_kind, is_known, known_call};
 ghost use Rattle.la_wire.specs.CallLines.{call_of, bounded_call_of, named_call};
+ghost use Rattle.la_wire.specs.CallLines.{own_call, may_be_own, are_own, own_words_call, words_call};
+ghost use Rattle.la_script.specs.Words.{bytes_of};
 
 use crate::messages::{KNOWN, Kind, read_message, standing_in};
+use crate::requests::SUBMIT;
+use crate::updates::{Verb, own_on};
+use crate::words::number_at;
 use crate::{Letter, LineError, LineFault};
 use la_io::limit_of;
 use la_node::Standing;
@@ -17,6 +22,9 @@ use la_script::{FaultName, ReadError, Version, event_at, split_once, words_of};
 use la_set::Op;
 use la_world::Event;
 use std::alloc::{AllocError, Global};
+
+/// The line that a timer is.
+pub(crate) const TICK: &[u8] = b"tick";
 
 /// What a node is called for.
 #[derive(Drop)]
@@ -112,6 +120,65 @@ fn script_call(alloc: Global, line: &[u8]) -> Result<Call, LineError>
     }
 }
 
+// A submission of an operation of one's own, by the words of its replica, its object and its bytes.
+fn own_call(alloc: Global, replica: &[u8], object: &[u8], text: &[u8]) -> Result<Call, LineError>
+    ensures { GivesOnLine called (own_call replica.now object.now text.now) result }
+{
+    let replica = number_at(0, u64::from(u8::MAX), replica)? as u8;
+    let object = number_at(0, u64::from(u16::MAX), object)? as u16;
+    let op = own_on(alloc, text)?;
+    Ok(Call::Submit {
+        replica,
+        object,
+        op,
+    })
+}
+
+// Whether a line's fourth word is `own`, and its first `submit`.
+fn may_be_own(line: &[u8]) -> bool
+    ensures { result ≡ may_be_own line.now }
+{
+    let (first, rest) = split_once(line, b' ');
+    let (_, rest) = split_once(rest, b' ');
+    let (_, rest) = split_once(rest, b' ');
+    let (word, _) = split_once(rest, b' ');
+    first == SUBMIT && word == Verb::Own.spelling()
+}
+
+// Whether words are a submission of an operation of one's own.
+fn are_own(words: &[&[u8]]) -> bool
+    ensures { result ≡ are_own (bytes_of words.now) }
+{
+    match words {
+        [first, _, _, word, _] => *first == SUBMIT && *word == Verb::Own.spelling(),
+        _ => false,
+    }
+}
+
+fn own_words_call(alloc: Global, words: &[&[u8]]) -> Result<Call, LineError>
+    ensures { GivesOnLine called (own_words_call (bytes_of words.now)) result }
+{
+    match words {
+        [_, replica, object, _, text] => own_call(alloc, replica, object, text),
+        _ => Err(LineError::Fault(LineFault::BadLine)),
+    }
+}
+
+// The call that a line says of which no word is taken for a message's.
+fn words_call(alloc: Global, line: &[u8]) -> Result<Call, LineError>
+    ensures { GivesOnLine called (words_call (words_of line.now)) result }
+{
+    if !may_be_own(line) {
+        return script_call(alloc, line);
+    }
+    let words = words_of(alloc, line)?;
+    if are_own(&words) {
+        own_words_call(alloc, &words)
+    } else {
+        script_call(alloc, line)
+    }
+}
+
 // Whether a line's first word is `known`.
 pub(crate) fn is_known(line: &[u8]) -> bool
     ensures { result ≡ is_known line.now }
@@ -150,13 +217,13 @@ pub(crate) fn first_kind(line: &[u8]) -> Option<Kind>
 pub fn read(alloc: Global, line: &[u8]) -> Result<Call, LineError>
     ensures { GivesOnLine called (call_of line.now) result }
 {
-    if line == b"tick".as_slice() {
+    if line == TICK {
         return Ok(Call::Tick);
     }
     match first_kind(line) {
         Some(_) => Ok(Call::Receive(read_message(alloc, line)?)),
         None if is_known(line) => read_known(alloc, line),
-        None => script_call(alloc, line),
+        None => words_call(alloc, line),
     }
 }
 

@@ -16,7 +16,8 @@ ghost use Rattle.la_wire.specs.CallLines.{call_line_text, named_call, bounded_ca
 ghost use Rattle.la_wire.specs.Writable.{IsId, IsCall, IsMessage, IsTypedMessage, IsTagless};
 ghost use Rattle.la_wire.specs.Tests.{is_call};
 ghost use Rattle.la_wire.specs.Requests.{has_no_at, is_name, is_of_peer, asked_in, nameless};
-ghost use Rattle.la_wire.specs.Requests.{NumberedLine, numbered_in, numbered_submission, IsSubmission, front_word};
+ghost use Rattle.la_wire.specs.Joined.{front_word};
+ghost use Rattle.la_wire.specs.Requests.{NumberedLine, numbered_in, numbered_submission, IsSubmission};
 ghost use Rattle.la_wire.specs.declared.questions.Question.{Question};
 ghost use Rattle.la_wire.specs.declared.questions.Take.{Take};
 ghost use Rattle.la_wire.specs.Questions.{question_in, take_in, awaited_in, question_text, take_text, IsQuestion, IsTake};

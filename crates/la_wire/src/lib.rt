@@ -15,8 +15,9 @@
 //! number. A C is counts as one word: up to eight numbers of 32 bits with `,` between them, how many updates of
 //! replicas 0, 1 and so on, without the zeros at the end; behind `has` what F has accepted, behind `view` what
 //! its view has, behind `base` what the updates go over. An update U is `P.N O` and what it does, O of 16
-//! bits: `inc X`, `dec X`, `raise X`, `put X`, `remove T ..` and `mark`, as in a script, and of an
-//! adopt-commit object `vote X`, or `sole X` where its voter saw that value alone, X of 64 bits.
+//! bits: `inc X`, `dec X`, `raise X`, `put X`, `remove T ..` and `mark`, as in a script; `own H`, an operation of one's own,
+//! H two hexadecimal digits for each of its bytes, or `-` for none; and of an adopt-commit object `vote X`, or `sole X` where
+//! its voter saw that value alone, X of 64 bits.
 //!
 //! A replica's state is a text of one line, here with breaks:
 //!
@@ -39,7 +40,9 @@
 //! | `ask R O tags X` | `# rR answered O tags P.N ..`: the updates by which object O has element X |
 //! | `ask R O updates` | `# rR answered O updates N N N N N N N N`: how many updates of it the view has, of each replica |
 //! | `ask .. at P.N` | that of the question without `at P.N`, once update P.N is there; until then `# rR waiting P.N` |
+//! | `update R P.N` | `# rR update P.N O ..`: update P.N of the view, as U; or `# rR waiting P.N` |
 //! | `status R` | `# rR status version V has C view C submitted N waiting N ballot B open ..`, or `shut`, and more |
+//! | `submit R O own H` | as a submission: an operation of one's own |
 //! | `submit R O take X` | as a submission: X is taken out of object O by the updates that put it |
 //! | `submit R.K O take X` | the same, under a number |
 //!
@@ -66,17 +69,19 @@ mod telling;
 mod updates;
 mod words;
 mod writing;
+mod wrongs;
 
 pub use calls::{Call, named, read, read_bounded};
 pub use error::{LineError, LineFault};
 pub use la_node::{Letter, Standing};
 pub use notes::{
     put_answered, put_known_line, put_learnt, put_letter_line, put_outcome, put_proposed,
-    put_submitted, put_tags_answer, put_updates_answer, put_view, put_waiting,
+    put_submitted, put_tags_answer, put_update_answer, put_updates_answer, put_view, put_waiting,
 };
 pub use questions::{Awaited, Question, Take, awaited_in, question_in, take_in};
 pub use requests::{MAX_NAME, NumberedCall, Request, numbered_in, request_in};
 pub use states::{put_state, same_state, state_in};
 pub use status::{Kinds, NodeStatus, Tally, put_status};
-pub use telling::{refuse, tell_fault};
+pub use telling::{TOLD_BYTES, refuse, tell_fault};
 pub use writing::{put_letter, write};
+pub use wrongs::{Wanted, Wrong, wrong_part};

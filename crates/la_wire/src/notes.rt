@@ -6,17 +6,19 @@ ghost use Rattle.la_wire.specs.Writable.{IsTypedMessage};
 ghost use Rattle.la_wire.specs.Notes.{outcome_word, message_line, known_line};
 ghost use Rattle.la_wire.specs.Notes.{submitted_note, proposed_note, learnt_note, view_note};
 ghost use Rattle.la_wire.specs.Notes.{outcome_note, answered_note, begun_note, tags_note, updates_note, waiting_note};
+ghost use Rattle.la_wire.specs.Notes.{update_note};
 ghost use Rattle.la_wire.specs.Joined.{spaced};
 ghost use Rattle.la_wire.specs.Requests.{name_words};
 
 use crate::writing::{
-    put_counts, put_decimal, put_letter, put_number, put_standing, put_tag, put_tags, put_word,
+    put_counts, put_decimal, put_letter, put_number, put_standing, put_tag, put_tags,
+    put_update_words, put_word,
 };
 use crate::{Letter, Standing};
 use la_commit::Outcome;
 use la_object::Answer;
 use la_script::{Pieces, put_answer};
-use la_set::{Counts, Tags, UpdateId};
+use la_set::{Counts, Tags, Update, UpdateId};
 use std::alloc::{AllocError, Global};
 
 /// Begins a note of a replica's with a word.
@@ -198,6 +200,21 @@ pub fn put_updates_answer(
 {
     put_answering(out, own, object, b"updates")?;
     put_counts(out, counts)?;
+    put_name(out, name)?;
+    put_end(out)
+}
+
+/// Puts an update of the view, in answer to a request of this name.
+pub fn put_update_answer(
+    out: &mut Vec<u8>,
+    own: u8,
+    update: &Update,
+    name: &str,
+) -> Result<(), AllocError>
+    ensures { OnOk result (out.new.items ≡ out.old.items ++ update_note own update.now name.now) }
+{
+    put_front(out, own, b"update")?;
+    put_update_words(out, update)?;
     put_name(out, name)?;
     put_end(out)
 }

@@ -2,10 +2,10 @@
 ghost use Rattle.std.specs.Prelude.{◌≡◌, IfOk, option_map};
 ghost use Rattle.la_script.specs.Words.{bytes_of};
 ghost use Rattle.la_script.specs.Numbers.{u8_max, u16_max, u64_max, number};
-ghost use Rattle.la_wire.specs.Questions.{tags_question, updates_question, question_asked, status_asked};
+ghost use Rattle.la_wire.specs.Questions.{tags_question, updates_question, question_asked, status_asked, update_asked};
 ghost use Rattle.la_wire.specs.Questions.{question_by, question_in, taker_of, taken_by, take_by, take_in};
 ghost use Rattle.la_wire.specs.Questions.{awaited_line, awaited_by, awaited_in};
-ghost use Rattle.la_wire.specs.Requests.{front_word};
+ghost use Rattle.la_wire.specs.Joined.{front_word};
 ghost use Rattle.std.specs.Str.{bytes_eq};
 
 use crate::requests::SUBMIT;
@@ -13,15 +13,17 @@ use la_script::{number, split_once, tag_of, words_of};
 use la_set::UpdateId;
 use std::alloc::{AllocError, Global};
 
-const ASK: &[u8] = b"ask";
+pub(crate) const ASK: &[u8] = b"ask";
 
-const STATUS: &[u8] = b"status";
+pub(crate) const STATUS: &[u8] = b"status";
 
-const TAGS: &[u8] = b"tags";
+pub(crate) const UPDATE: &[u8] = b"update";
 
-const UPDATES: &[u8] = b"updates";
+pub(crate) const TAGS: &[u8] = b"tags";
 
-const TAKE: &[u8] = b"take";
+pub(crate) const UPDATES: &[u8] = b"updates";
+
+pub(crate) const TAKE: &[u8] = b"take";
 
 const AT: &[u8] = b"at";
 
@@ -43,6 +45,13 @@ pub enum Question {
         replica: u8,
         /// The number of the object.
         object: u16,
+    },
+    /// Which update has this id: `update R P.N`.
+    Update {
+        /// The number of the replica that is asked, from 0.
+        replica: u8,
+        /// The id.
+        id: UpdateId,
     },
     /// How the node stands: `status R`.
     Status {
@@ -140,23 +149,37 @@ fn status_asked(words: &[&[u8]]) -> Option<Question>
     }
 }
 
+// The question that the words behind `update` are.
+fn update_asked(words: &[&[u8]]) -> Option<Question>
+    ensures { result ≡ update_asked (bytes_of words.now) }
+{
+    match words {
+        [replica, id] => Some(Question::Update {
+            replica: replica_in(replica)?,
+            id: tag_of(id)?,
+        }),
+        _ => None,
+    }
+}
+
 fn question_by(words: &[&[u8]]) -> Option<Question>
     ensures { result ≡ question_by (bytes_of words.now) }
 {
     match words {
         [word, rest @ ..] if *word == STATUS => status_asked(rest),
+        [word, rest @ ..] if *word == UPDATE => update_asked(rest),
         [word, rest @ ..] if *word == ASK => question_asked(rest),
         _ => None,
     }
 }
 
-/// The question that a line is, by its words: `ask R O tags X`, `ask R O updates` or `status R`, with R of 8 bits, O of
-/// 16 and X of 64. Any other line is none, nor is one with a number there that is not canonical or is out of its range,
+/// The question that a line is, by its words: `ask R O tags X`, `ask R O updates`, `update R P.N` or `status R`, with R
+/// of 8 bits, O of 16, X of 64 and P.N an id. Any other line is none, nor is one with a number there that is not canonical or is out of its range,
 /// of which the fault is found where the call is read. It takes memory for the words, at a cost linear in the line.
 pub fn question_in(alloc: Global, line: &[u8]) -> Result<Option<Question>, AllocError>
     ensures { IfOk result (λ q. q ≡ question_in line.now) }
 {
-    if !begins_with(line, STATUS) && !begins_with(line, ASK) {
+    if !begins_with(line, STATUS) && !begins_with(line, UPDATE) && !begins_with(line, ASK) {
         return Ok(None);
     }
     question_by_words(alloc, line)

@@ -94,7 +94,7 @@ fn at_sign(line: &[u8]) -> Option<usize>
 }
 
 // Whether a line is of another replica, by its first word.
-fn is_of_peer(line: &[u8]) -> bool
+pub(crate) fn is_of_peer(line: &[u8]) -> bool
     ensures { result ≡ is_of_peer line.now }
 {
     first_kind(line).is_some() || is_known(line)

@@ -3,10 +3,12 @@ ghost use Rattle.std.specs.Prelude.{◌≡◌, ◌≤◌, IfOk};
 ghost use Rattle.la_script.specs.Words.{bytes_of};
 ghost use Rattle.la_wire.specs.Readings.{GivesOnLine};
 ghost use Rattle.la_wire.specs.Updates.{verb_spelling, vote_verb, verb_of, only_number, line_tags};
-ghost use Rattle.la_wire.specs.Updates.{op_at, op_in, update_in, updates_in};
+ghost use Rattle.la_wire.specs.Updates.{own_made, own_on, only_own, op_at, op_in, update_in, updates_in};
 
 use crate::words::{at_end, first_id, first_number, number_at};
 use crate::{LineError, LineFault};
+use hex::FromHexError;
+use la_own::{OwnError, own_op};
 use la_script::{tags_of, words_of};
 use la_set::{MAX_TAGS, Op, Tags, Update, Updates};
 use std::alloc::Global;
@@ -19,10 +21,14 @@ pub enum Verb {
     Raise,
     Put,
     Remove,
+    Own,
     Mark,
     Vote,
     Sole,
 }
+
+/// How many hexadecimal digits say an operation of one's own at most.
+pub(crate) const MAX_OWN_DIGITS: usize = 496;
 
 impl Verb {
     /// The word, as bytes.
@@ -35,6 +41,7 @@ impl Verb {
             Verb::Raise => b"raise",
             Verb::Put => b"put",
             Verb::Remove => b"remove",
+            Verb::Own => b"own",
             Verb::Mark => b"mark",
             Verb::Vote => b"vote",
             Verb::Sole => b"sole",
@@ -48,8 +55,8 @@ impl Verb {
         if sole { Verb::Sole } else { Verb::Vote }
     }
 
-    // The verb that a word is.
-    fn of(word: &[u8]) -> Option<Verb>
+    /// The verb that a word is.
+    pub(crate) fn of(word: &[u8]) -> Option<Verb>
         ensures { result ≡ verb_of word.now }
     {
         if word == Verb::Inc.spelling() {
@@ -62,6 +69,8 @@ impl Verb {
             Some(Verb::Put)
         } else if word == Verb::Remove.spelling() {
             Some(Verb::Remove)
+        } else if word == Verb::Own.spelling() {
+            Some(Verb::Own)
         } else if word == Verb::Mark.spelling() {
             Some(Verb::Mark)
         } else if word == Verb::Vote.spelling() {
@@ -97,6 +106,44 @@ fn tags_at(alloc: Global, words: &[&[u8]]) -> Result<Tags, LineError>
     }
 }
 
+// The operation of one's own of these bytes.
+fn own_made(alloc: Global, bytes: &[u8]) -> Result<Op, LineError>
+    ensures { GivesOnLine (λ op. op) (own_made bytes.now) result }
+{
+    match own_op(alloc, bytes) {
+        Ok(op) => Ok(op),
+        Err(OwnError::TooLong) => Err(LineError::Fault(LineFault::BadNumber)),
+        Err(OwnError::Memory) => Err(LineError::Memory),
+    }
+}
+
+/// The operation of one's own that a word says: `-`, or two hexadecimal digits for each of its bytes.
+pub(crate) fn own_on(alloc: Global, word: &[u8]) -> Result<Op, LineError>
+    ensures { GivesOnLine (λ op. op) (own_on word.now) result }
+{
+    if word == b"-".as_slice() {
+        return own_made(alloc, &[]);
+    }
+    if word.is_empty() {
+        return Err(LineError::Fault(LineFault::BadNumber));
+    }
+    match hex::decode(alloc, word) {
+        Ok(bytes) => own_made(alloc, &bytes),
+        Err(FromHexError::OutOfMemory) => Err(LineError::Memory),
+        Err(_) => Err(LineError::Fault(LineFault::BadNumber)),
+    }
+}
+
+// One word that says it, and nothing behind it.
+fn only_own(alloc: Global, words: &[&[u8]]) -> Result<Op, LineError>
+    ensures { GivesOnLine (λ op. op) (only_own (bytes_of words.now)) result }
+{
+    match words {
+        [word] => own_on(alloc, word),
+        _ => Err(LineError::Fault(LineFault::BadLine)),
+    }
+}
+
 // What the words behind a verb say.
 fn op_at(alloc: Global, verb: Verb, words: &[&[u8]]) -> Result<Op, LineError>
     ensures { GivesOnLine (λ op. op) (op_at verb (bytes_of words.now)) result }
@@ -108,6 +155,7 @@ fn op_at(alloc: Global, verb: Verb, words: &[&[u8]]) -> Result<Op, LineError>
         Verb::Raise => Ok(Op::Raise(only_number(u64::MAX, words)?)),
         Verb::Put => Ok(Op::Put(only_number(u64::MAX, words)?)),
         Verb::Remove => Ok(Op::Remove(tags_at(alloc, words)?)),
+        Verb::Own => only_own(alloc, words),
         Verb::Mark => {
             at_end(words)?;
             Ok(Op::Mark)

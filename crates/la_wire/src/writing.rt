@@ -1,26 +1,29 @@
 // Letters, written as lines.
-ghost use Rattle.std.specs.Prelude.{◌≡◌, ◌≤◌, ◌++◌, ◌∷◌, [], map, All, IfOk, OnOk};
+ghost use Rattle.std.specs.Prelude.{◌≡◌, ◌≤◌, ◌++◌, ◌∷◌, [], length, map, All, IfOk, OnOk};
 ghost use Rattle.std.specs.Fmt.{decimal};
+ghost use Rattle.la_set.specs.declared.update.Op.TheVariants.{Remove};
 ghost use Rattle.la_set.specs.Tags.{IsTags};
 ghost use Rattle.la_script.specs.Numbers.{u8_max, u32_max};
 ghost use Rattle.la_script.specs.Text.{id_text};
 ghost use Rattle.la_wire.specs.Joined.{spaced, joined_by};
-ghost use Rattle.la_wire.specs.Updates.{op_words, update_text};
+ghost use Rattle.la_wire.specs.Updates.{op_words, update_words, update_text};
 ghost use Rattle.la_wire.specs.Messages.{letter_message, said_content};
 ghost use Rattle.la_wire.specs.MessageLines.{count_words, counts_text, base_words, base_word, carried};
 ghost use Rattle.la_wire.specs.MessageLines.{kind_text, kind_in, progress_words, header_words, message_text, standing_text};
-ghost use Rattle.la_wire.specs.Updates.{verb_spelling};
+ghost use Rattle.la_wire.specs.Updates.{verb_spelling, own_text};
+ghost use Rattle.la_wire.specs.declared.updates.Verb.TheVariants.{Own};
 ghost use Rattle.la_wire.specs.Calls.{called};
 ghost use Rattle.la_wire.specs.CallLines.{query_words, call_line_text};
 ghost use Rattle.la_wire.specs.Writable.{IsIdFrom, IsOpFrom, IsUpdateFrom, IsBodyFrom, IsCounts, IsTypedMessage};
 
 use crate::counts::put_counts_text;
 use crate::messages::{KNOWN, Kind};
-use crate::updates::Verb;
+use crate::updates::{MAX_OWN_DIGITS, Verb};
 use crate::{Call, Letter};
 use itoa::Buffer;
 use la_node::Standing;
 use la_object::Query;
+use la_own::{OWN_BYTES, own_bytes};
 use la_replica::{Content, Parcel, Progress};
 use la_set::{Counts, Delta, Op, REPLICAS, Tags, Update, UpdateId};
 use std::alloc::{AllocError, Global};
@@ -88,6 +91,41 @@ fn put_verb(out: &mut Vec<u8>, verb: Verb, number: u64) -> Result<(), AllocError
     put_number(out, number)
 }
 
+// Writes an operation of one's own.
+fn put_own(out: &mut Vec<u8>, bytes: &[u8]) -> Result<(), AllocError>
+    requires { length bytes.now ≤ OWN_BYTES }
+    ensures { OnOk result
+        (out.new.items ≡ out.old.items ++ spaced 32 (verb_spelling Own ∷ own_text bytes.now ∷ [])) }
+{
+    put_word(out, Verb::Own.spelling())?;
+    if bytes.is_empty() {
+        return put_word(out, b"-");
+    }
+    let mut room = [0; MAX_OWN_DIGITS];
+    let digits = &mut room[..2 * bytes.len()];
+    match hex::encode_to_slice(bytes, digits) {
+        Ok(()) => put_word(out, digits),
+        Err(_) => unreachable!(),
+    }
+}
+
+// Writes a remove, which has these tags.
+fn put_remove(out: &mut Vec<u8>, op: &Op, tags: &Tags) -> Result<(), AllocError>
+    requires { op.now ≡ Remove tags.now }
+    ensures exact { OnOk result (out.new.items ≡ out.old.items ++ spaced 32 (op_words op.now)) }
+    ensures typed { OnOk result (IsOpFrom 0 op.now) }
+{
+    // a hint to the prover: tags are a set
+    let _few = tags.len();
+    match own_bytes(op) {
+        Some(bytes) => put_own(out, bytes.as_slice()),
+        None => {
+            put_word(out, Verb::Remove.spelling())?;
+            put_tags(out, tags)
+        }
+    }
+}
+
 fn put_op(out: &mut Vec<u8>, op: &Op) -> Result<(), AllocError>
     ensures exact { OnOk result (out.new.items ≡ out.old.items ++ spaced 32 (op_words op.now)) }
     ensures typed { OnOk result (IsOpFrom 0 op.now) }
@@ -97,13 +135,19 @@ fn put_op(out: &mut Vec<u8>, op: &Op) -> Result<(), AllocError>
         Op::Dec(by) => put_verb(out, Verb::Dec, u64::from(*by)),
         Op::Raise(to) => put_verb(out, Verb::Raise, *to),
         Op::Put(element) => put_verb(out, Verb::Put, *element),
-        Op::Remove(tags) => {
-            put_word(out, Verb::Remove.spelling())?;
-            put_tags(out, tags)
-        }
+        Op::Remove(tags) => put_remove(out, op, tags),
         Op::Mark => put_word(out, Verb::Mark.spelling()),
         Op::Vote { value, sole } => put_verb(out, Verb::of_vote(*sole), *value),
     }
+}
+
+// Writes an update behind other words.
+pub(crate) fn put_update_words(out: &mut Vec<u8>, update: &Update) -> Result<(), AllocError>
+    ensures { OnOk result (out.new.items ≡ out.old.items ++ spaced 32 (update_words update.now)) }
+{
+    put_tag(out, update.id)?;
+    put_number(out, u64::from(update.object))?;
+    put_op(out, &update.op)
 }
 
 // Writes an update as a part behind others.

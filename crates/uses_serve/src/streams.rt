@@ -23,7 +23,7 @@ pub fn take_next<R: Read, E: Listener>(
 {
     match source.next(reader)? {
         Next::Line => return Ok(true),
-        Next::Long => tell_fault(errors, number, LineFault::TooLong, ""),
+        Next::Long => tell_fault(errors, number, LineFault::TooLong, None, ""),
         Next::Cut | Next::End => (),
     }
     Ok(false)

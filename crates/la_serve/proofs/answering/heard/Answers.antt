@@ -1,9 +1,9 @@
-use Rattle.std.proofs.Common.{inr, subst}
+use Rattle.std.proofs.Common.{subst}
+use Rattle.la_io.specs.Streams.{TellsLine}
+use Rattle.la_wire.specs.Notes.{line_fault_line}
 use Rattle.la_durable.specs.Inputs.{IsInputRefusal}
 use Rattle.la_serve.specs.Asking.{heard_as}
-use Rattle.la_serve.specs.Serving.{OfHeard, IsStarvedLine}
-use Rattle.la_serve.proofs.TakenLines.{on_ok_more, if_err_more}
-use Rattle.la_serve.proofs.OneLine.{ok_heard, err_heard, fault_taken, tells_none}
+use Rattle.la_serve.proofs.OneLine.{ok_heard, err_heard, fault_taken}
 use Rattle.la_serve.proofs.answering.heard.Goals as goal
 
 pub returns-in-Ok-clause-ok : goal.returns-in-Ok-clause-ok
@@ -18,21 +18,16 @@ returns-in-Ok-clause-err g c =
     c.args.line.now _ _ c.in-Ok.input c.in-Ok.ensures.ok c.call-call.ensures.says c.call-call.ensures.line
     c.call.result c.call.ensures.err
 
-pub returns-in-Err-Fault-clause-ok : goal.returns-in-Err-Fault-clause-ok
-returns-in-Err-Fault-clause-ok g c =
-    let told = rw c.in-Err-Fault.field-0-is at c.tell_fault.ensures in
-    fault_taken g.E.Write.contents g.E.Listener.refuses c.args.errors.now c.args.asking.number
-    (heard_as c.args.asking c.args.line.now) _ c.tell_fault.new.errors c.in-Err-Fault.fault
-    (subst (IsInputRefusal c.args.line.now) c.in-Err-Fault.field-0-is c.in-Err-Fault.ensures.error) told
-
-pub returns-in-Err-Memory-clause-ok : goal.returns-in-Err-Memory-clause-ok
-returns-in-Err-Memory-clause-ok g c =
-    on_ok_more (IsStarvedLine c.args.asking.line.now c.args.asking.number)
-    (OfHeard (heard_as c.args.asking c.args.line.now) c.args.asking.number) _ _ (λ t hungry. inr hungry)
-    (tells_none g.E.Write.contents g.E.Listener.refuses c.args.errors.now) c.starve.result c.starve.ensures.ok
-
-pub returns-in-Err-Memory-clause-err : goal.returns-in-Err-Memory-clause-err
-returns-in-Err-Memory-clause-err g c =
-    if_err_more (IsStarvedLine c.args.asking.line.now c.args.asking.number)
-    (OfHeard (heard_as c.args.asking c.args.line.now) c.args.asking.number) _ _ (λ t hungry. inr hungry)
-    (tells_none g.E.Write.contents g.E.Listener.refuses c.args.errors.now) c.starve.result c.starve.ensures.err
+pub returns-in-Ok-wrong_part-clause-ok : goal.returns-in-Ok-wrong_part-clause-ok
+returns-in-Ok-wrong_part-clause-ok g c =
+    let fault = c.in-Err-Fault.fault in
+    let refused = g.E.Listener.refuses in
+    let of_part =
+    subst
+    (λ part.
+    TellsLine g.E.Write.contents refused c.args.errors.now c.tell_fault.new.errors
+    (line_fault_line c.args.asking.number fault part c.args.asking.name.now)) c.in-Ok-wrong_part.ensures
+    c.tell_fault.ensures in
+    fault_taken g.E.Write.contents refused c.args.errors.now c.args.asking.number
+    (heard_as c.args.asking c.args.line.now) _ c.tell_fault.new.errors fault
+    (subst (IsInputRefusal c.args.line.now) c.in-Err-Fault.field-0-is c.in-Err-Fault.ensures.error) of_part

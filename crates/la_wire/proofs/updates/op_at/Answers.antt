@@ -65,3 +65,7 @@ returns-in_ok-only_number-in-Vote c = search rules
 pub returns-in_ok-only_number-in-Sole : goal.returns-in_ok-only_number-in-Sole
 unfolding op_at
 returns-in_ok-only_number-in-Sole c = search rules
+
+pub returns-in-Own : goal.returns-in-Own
+unfolding op_at
+returns-in-Own c = search rules
