@@ -3,4 +3,6 @@
 //! for word.
 #![tactic(auto)]
 
+pub mod shelves;
 pub mod statuses;
+pub mod tallies;
