@@ -1,5 +1,5 @@
-ghost use Rattle.std.specs.Prelude.{◌≡◌, IfOk, sum_by};
-ghost use Rattle.la_shelf.specs.Shelves.{updates_at};
+ghost use Rattle.std.specs.Prelude.{◌≡◌, Some, None, IfOk, sum_by};
+ghost use Rattle.la_shelf.specs.Shelves.{kind_at, updates_at};
 ghost use Rattle.uses_types.specs.Statuses.{last_put};
 ghost use Rattle.uses_types.specs.Tallies.{added};
 
@@ -31,4 +31,17 @@ pub fn status_and_total(
         _ => 0,
     };
     Ok((status, total))
+}
+
+/// What a replica put last by what a shelf has absorbed, where a status has the number. A status
+/// answers whatever memory there is, so that only a number without an object is refused.
+pub fn status_of(shelf: &Shelf<Status>, number: u16, replica: u8) -> Option<u64>
+    ensures there { kind_at shelf.now.objects number ≡ Some tt
+        → result ≡ last_put (λ id. id.replica) (updates_at shelf.now.view number) replica }
+    ensures absent { kind_at shelf.now.objects number ≡ None → result ≡ None }
+{
+    match shelf.ask(number, &replica) {
+        Ok(status) => status,
+        Err(_) => None,
+    }
 }
