@@ -1,5 +1,5 @@
 -- A tally: the sum of what its updates add.
-use Rattle.std.proofs.Common.{◌≡◌, ℕ, ◌+◌, true, sum_by, refl, arith}
+use Rattle.std.proofs.Common.{◌≡◌, ℕ, ◌+◌, true, List, [], ◌∷◌, fold, sum_by, refl, arith}
 use Rattle.la_set.specs.declared.update.Op.{Op}
 use Rattle.la_set.specs.declared.update.Op.TheVariants.{Inc}
 use Rattle.la_set.specs.declared.update.Update.{Update}
@@ -13,28 +13,36 @@ added_by _ = 0
 abbrev pub added : Update → ℕ
 added u = added_by u.op
 
-abbrev pub tally_after : ℕ → Update → ℕ
-tally_after total u = total + added u
+-- the limit and the total after an update
+abbrev pub tally_after : ℕ × ℕ → Update → ℕ × ℕ
+tally_after s u = (s.0, s.1 + added u)
 
-abbrev pub tally_meaning : Meaning (Unit {0}) ℕ (Unit {0}) ℕ
+abbrev pub tally_meaning : Meaning ℕ (ℕ × ℕ) (Unit {0}) ℕ
 tally_meaning = record {
-  start = λ kind. 0;
-  kind_of = λ total. tt;
+  start = λ limit. (limit, 0);
+  kind_of = λ s. s.0;
   after = tally_after;
-  reply = λ total query. total;
-  value = λ kind us query. sum_by added us;
-  in_place = λ kind query. true;
+  reply = λ s query. s.1;
+  value = λ limit us query. sum_by added us;
+  in_place = λ limit query. true;
 }
 
 -- ## The law
 
-pub exchanged : (total x y : ℕ) → (total + x) + y ≡ (total + y) + x
-exchanged total x y = omega arith
+pub exchanged : (s : ℕ × ℕ) (u v : Update) → tally_after (tally_after s u) v ≡ tally_after (tally_after s v) u
+exchanged s u v = λ i. (s.0, either_order s.1 (added u) (added v) i)
+  where
+    either_order : (total x y : ℕ) → (total + x) + y ≡ (total + y) + x
+    either_order total x y = omega arith
+
+total_is : (limit total : ℕ) (us : List Update) → (fold tally_after (limit, total) us).1 ≡ fold (λ a u. a + added u) total us
+total_is limit total [] = refl
+total_is limit total (u ∷ us) = total_is limit (total + added u) us
 
 pub tally_lawful : IsLawful tally_meaning
 tally_lawful = record {
-  commutes = λ total u v ne. exchanged total (added u) (added v);
-  keeps = λ total u. refl;
-  starts = λ kind. refl;
-  means = λ kind us query order. refl;
+  commutes = λ s u v ne. exchanged s u v;
+  keeps = λ s u. refl;
+  starts = λ limit. refl;
+  means = λ limit us query order. total_is limit 0 us;
 }

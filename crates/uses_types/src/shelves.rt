@@ -21,7 +21,7 @@ pub fn status_and_total(
 {
     let mut shelf = Shelf::new(alloc);
     shelf.add(1, Either::First(Status::new()))?;
-    shelf.add(2, Either::Second(Tally::new()))?;
+    shelf.add(2, Either::Second(Tally::new(u64::MAX)))?;
     let status = match shelf.ask_by(view, 1, &Either::First(replica))? {
         Some(Either::First(status)) => status,
         _ => None,

@@ -7,33 +7,35 @@ use la_set::{Op, Update};
 use la_shelf::{Absorbs, Refusal, laws};
 use std::alloc::AllocError;
 
-/// A sum of what was added, which takes no addition that would take it to 2^64.
+/// A sum of what was added, up to a limit, which is the object's kind.
 #[derive(Drop)]
 pub struct Tally {
+    limit: u64,
     total: u64,
 }
 
 impl Tally {
-    /// A tally at 0. It takes no memory.
-    pub fn new() -> Tally
-        ensures { result.total ≡ 0 }
+    /// A tally at 0, which takes no addition that would take it above a limit. It takes no memory.
+    pub fn new(limit: u64) -> Tally
+        ensures limit { result.limit ≡ limit }
+        ensures total { result.total ≡ 0 }
     {
-        Tally { total: 0 }
+        Tally { limit, total: 0 }
     }
 }
 
 impl Absorbs for Tally {
     ghost use Rattle.uses_types.specs.Tallies.{tally_meaning, tally_lawful};
 
-    type Kind = ();
+    type Kind = u64;
 
-    type State = u64;
+    type State = (u64, u64);
 
     type Query = ();
 
     type Answer = u64;
 
-    ghost state = { λ tally. tally.total };
+    ghost state = { λ tally. (tally.limit, tally.total) };
 
     ghost meaning = { tally_meaning };
 
@@ -44,8 +46,8 @@ impl Absorbs for Tally {
     fn absorb(&mut self, update: &Update) -> Result<(), Refusal> {
         if let Op::Inc(by) = &update.op {
             match self.total.checked_add(u64::from(*by)) {
-                Some(total) => self.total = total,
-                None => return Err(Refusal::Full),
+                Some(total) if total <= self.limit => self.total = total,
+                _ => return Err(Refusal::Full),
             }
         }
         Ok(())
@@ -55,8 +57,8 @@ impl Absorbs for Tally {
         Ok(self.total)
     }
 
-    fn state(&self) -> Result<u64, AllocError> {
-        Ok(self.total)
+    fn state(&self) -> Result<(u64, u64), AllocError> {
+        Ok((self.limit, self.total))
     }
 
     ghost lawful = { tally_lawful };
@@ -66,7 +68,7 @@ impl Absorbs for Tally {
 /// commute wherever their ids differ.
 pub fn order_does_not_matter()
     ensures { (us order : List Update) → AreAscending us → IsPermutation us order
-        → fold tally_after 0 order ≡ sum_by added us }
+        → (fold tally_after (0, 0) order).1 ≡ sum_by added us }
 {
     laws::order_does_not_matter::<Tally>();
 }
