@@ -16,7 +16,8 @@ pub fn status_and_total(
     view: &UpdateSet,
     replica: u8,
 ) -> Result<(Option<u64>, u64), ShelfError>
-    ensures status { IfOk result (λ it. it.0 ≡ last_put (λ id. id.replica) (updates_at view.now 1) replica) }
+    ensures status { IfOk result (λ it.
+        it.0 ≡ last_put (λ id. id.replica) (updates_at view.now 1) replica) }
     ensures total { IfOk result (λ it. it.1 ≡ sum_by added (updates_at view.now 2)) }
 {
     let mut shelf = Shelf::new(alloc);
