@@ -7,7 +7,6 @@ pub mod Tags
 pub mod Orders
 pub mod Replies
 pub mod OwnOperations
-pub mod Views
-pub mod NewUpdates
+pub mod Lawful
 pub mod Runs
 pub mod FreshShelves

@@ -2,7 +2,7 @@ use Rattle.std.proofs.Common.{ap, ◌∙◌}
 use Rattle.la_object.specs.Objects.{reply, tags_of, start}
 use Rattle.la_object.specs.Shelves.{updates_at}
 use Rattle.la_object.proofs.Steps.{after-swap}
-use Rattle.la_object.proofs.Views.{distinct-view, ascending-view}
+use Rattle.la_object.proofs.Lawful.{distinct-view, ascending-view}
 use Rattle.la_object.proofs.Replies.{reply-steps, tags-steps}
 use Rattle.la_object.proofs.Orders.{steps-IsPermutation}
 use Rattle.la_object.proofs.laws.order_does_not_matter.Goals as goal
