@@ -4,7 +4,6 @@ pub mod Steps
 pub mod Presence
 pub mod LivePuts
 pub mod Tags
-pub mod Orders
 pub mod Replies
 pub mod OwnOperations
 pub mod Lawful

@@ -1,6 +1,6 @@
 -- Objects of all kinds: what an object answers by its updates, and the steps of a state by which it
 -- gets there.
-use Rattle.std.specs.Prelude.{◌≡◌, ℕ, Bool, true, false, List, [], fold, filter}
+use Rattle.std.specs.Prelude.{◌≡◌, ℕ, Bool, true, false, not, List, [], fold, filter}
 use Rattle.std.specs.FinMap as map
 use Rattle.std.specs.FinSet as set
 use Rattle.la_set.specs.declared.update.UpdateId.{UpdateId}
@@ -104,4 +104,11 @@ HasRoom (Set adds gone) = Unit {0}
 -- ## Objects of all kinds as a shelf of objects of one's own takes them
 
 abbrev pub meaning : Meaning Kind State Query Answer
-meaning = record { start = start; kind_of = kind_of; after = after; reply = reply; value = value }
+meaning = record {
+  start = start;
+  kind_of = kind_of;
+  after = after;
+  reply = reply;
+  value = value;
+  in_place = λ kind query. not (answers_a_list kind query);
+}
