@@ -6,6 +6,5 @@ pub mod LivePuts
 pub mod Tags
 pub mod Replies
 pub mod OwnOperations
-pub mod Lawful
 pub mod Runs
 pub mod FreshShelves

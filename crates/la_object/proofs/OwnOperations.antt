@@ -26,7 +26,7 @@ use Rattle.la_object.specs.Objects.{value, tags_by, is_of_kind, is_of_some_kind,
 use Rattle.la_object.specs.Shelves.{ShelfState, kind_at, updates_at, operations_at, state_by, answer_at, tags_at, state_at}
 use Rattle.la_object.proofs.lemmas.IdMaps.{with_ids-nil}
 use Rattle.la_object.proofs.Replies.{kind_of-after}
-use Rattle.la_object.proofs.Lawful.{kind_of-start}
+use Rattle.la_object.proofs.lemmas.Lawful.{kind_of-start}
 
 -- ## What a kind takes from the operations of others
 

@@ -9,12 +9,12 @@ use Rattle.la_set.specs.Deltas.{AreNext}
 use Rattle.la_set.proofs.lemmas.Places.{count_before-more, count_before_none, updates_count_before}
 use Rattle.la_set.proofs.lemmas.SetHistories.{count-push}
 use Rattle.la_set.proofs.lemmas.Inclusions.{subset-count}
-use Rattle.la_shelf.proofs.Runs as shelf
-use Rattle.la_shelf.proofs.Rows.{run-IsShelf}
+use Rattle.la_shelf.proofs.lemmas.Runs as shelf
+use Rattle.la_shelf.proofs.lemmas.Rows.{run-IsShelf}
 use Rattle.la_object.specs.declared.state.State.{State}
 use Rattle.la_object.specs.Objects.{meaning}
 use Rattle.la_object.specs.Shelves.{all_absorbed, HaveRoom, IsFirstMore, IsShelf, IsSmall}
-use Rattle.la_object.proofs.Lawful.{lawful}
+use Rattle.la_object.proofs.lemmas.Lawful.{lawful}
 use Rattle.la_object.proofs.lemmas.Rows.{rows, shelf-HaveRoom, small-run}
 
 few-updates : (s : Histories) → IsWithinLimit s → length (updates s) ≤ 8000000

@@ -11,16 +11,16 @@ use Rattle.la_set.specs.declared.update.Update.{Update}
 use Rattle.la_set.specs.Histories.{Histories, updates, IsNext, push}
 use Rattle.la_set.specs.Deltas.{AreNext}
 use Rattle.la_shelf.specs.Shelves.{IsObject}
-use Rattle.la_shelf.proofs.NewUpdates.{length-filter-le}
-use Rattle.la_shelf.proofs.Views.{push-IsInserted}
-use Rattle.la_shelf.proofs.Rows as shelf
+use Rattle.la_shelf.proofs.lemmas.NewUpdates.{length-filter-le}
+use Rattle.la_shelf.proofs.lemmas.Views.{push-IsInserted}
+use Rattle.la_shelf.proofs.lemmas.Rows as shelf
 use Rattle.la_object.specs.declared.kind.Kind.{Kind}
 use Rattle.la_object.specs.declared.query.Query.{Query}
 use Rattle.la_object.specs.declared.state.State.{State}
 use Rattle.la_object.specs.Objects.{meaning, steps, start, kind_of, HasRoom, of_object, tags_of, tags_by, answers_a_list}
 use Rattle.la_object.specs.Shelves.{kinds, HaveRoom, IsSmall, IsShelf, kind_at, updates_at, tags_at}
 use Rattle.la_object.proofs.Replies.{steps-HasRoom, tags-steps}
-use Rattle.la_object.proofs.Lawful.{lawful, ascending-view}
+use Rattle.la_object.proofs.lemmas.Lawful.{lawful, ascending-view}
 
 -- the rows of a list of objects
 abbrev pub rows : {B : Type 0} → (B → State) → List (ℕ × B) → List (ℕ × State)

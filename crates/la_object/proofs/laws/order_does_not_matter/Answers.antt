@@ -1,9 +1,9 @@
 use Rattle.std.proofs.Common.{ap, ◌∙◌}
-use Rattle.la_shelf.proofs.Orders.{steps-IsPermutation, ascending-distinct}
-use Rattle.la_shelf.proofs.Rows as shelf
+use Rattle.la_shelf.proofs.lemmas.Orders.{steps-IsPermutation, ascending-distinct}
+use Rattle.la_shelf.proofs.lemmas.Rows as shelf
 use Rattle.la_object.specs.Objects.{meaning, reply, tags_of, start}
 use Rattle.la_object.specs.Shelves.{updates_at}
-use Rattle.la_object.proofs.Lawful.{lawful, by_id, ascending-view}
+use Rattle.la_object.proofs.lemmas.Lawful.{lawful, by_id, ascending-view}
 use Rattle.la_object.proofs.Replies.{tags-steps}
 use Rattle.la_object.proofs.laws.order_does_not_matter.Goals as goal
 

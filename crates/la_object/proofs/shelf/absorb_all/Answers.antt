@@ -1,9 +1,9 @@
 use Rattle.std.proofs.Common.{◌≡◌, map, Some, sym, ap, ◌∙◌, arith}
 use Rattle.std.specs.List.{slice_get}
 use Rattle.la_object.specs.Shelves.{absorbed, states}
-use Rattle.la_shelf.proofs.Rows.{mapped-at, absorbed-next}
+use Rattle.la_shelf.proofs.lemmas.Rows.{mapped-at, absorbed-next}
 use Rattle.la_object.specs.Objects.{meaning}
-use Rattle.la_object.proofs.Lawful.{lawful}
+use Rattle.la_object.proofs.lemmas.Lawful.{lawful}
 use Rattle.la_object.proofs.lemmas.Rows.{small-next}
 use Rattle.la_object.proofs.shelf.absorb_all.Goals as goal
 

@@ -1,7 +1,7 @@
 use Rattle.std.proofs.Common.{Result, Ok, Err, OnOk, OnErr, sym}
-use Rattle.la_shelf.proofs.Rows.{row_here, rows-absorbed, rows-same, key-value, absorbed-lacks, lacks_from_lookup}
+use Rattle.la_shelf.proofs.lemmas.Rows.{row_here, rows-absorbed, rows-same, key-value, absorbed-lacks, lacks_from_lookup}
 use Rattle.la_object.specs.Objects.{meaning}
-use Rattle.la_object.proofs.Lawful.{lawful}
+use Rattle.la_object.proofs.lemmas.Lawful.{lawful}
 use Rattle.la_object.proofs.lemmas.Rows.{rows, row-HasRoom}
 use Rattle.la_object.proofs.shelf.absorb_one.Goals as goal
 

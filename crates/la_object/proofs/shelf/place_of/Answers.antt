@@ -1,6 +1,6 @@
-use Rattle.la_shelf.proofs.Rows.{found-or-none}
+use Rattle.la_shelf.proofs.lemmas.Rows.{found-or-none}
 use Rattle.la_object.specs.Objects.{meaning}
-use Rattle.la_object.proofs.Lawful.{lawful}
+use Rattle.la_object.proofs.lemmas.Lawful.{lawful}
 use Rattle.la_object.proofs.shelf.place_of.Goals as goal
 
 pub returns-in_default : goal.returns-in_default

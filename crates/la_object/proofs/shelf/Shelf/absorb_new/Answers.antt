@@ -4,10 +4,10 @@ use Rattle.la_set.specs.Histories.{Histories, updates}
 use Rattle.la_set.specs.Join.{HasNoMore}
 use Rattle.la_set.specs.Difference.{beyond, lacks}
 use Rattle.la_object.specs.Shelves.{ShelfState}
-use Rattle.la_shelf.proofs.NewUpdates.{length-filter-le, nothing_beyond, nothing_left, nothing_new}
-use Rattle.la_shelf.proofs.Runs.{more-HasTaken}
+use Rattle.la_shelf.proofs.lemmas.NewUpdates.{length-filter-le, nothing_beyond, nothing_left, nothing_new}
+use Rattle.la_shelf.proofs.lemmas.Runs.{more-HasTaken}
 use Rattle.la_object.specs.Objects.{meaning}
-use Rattle.la_object.proofs.Lawful.{lawful}
+use Rattle.la_object.proofs.lemmas.Lawful.{lawful}
 use Rattle.la_object.proofs.shelf.Shelf.absorb_new.Goals as goal
 
 pub overflow_add-done : goal.overflow_add-done

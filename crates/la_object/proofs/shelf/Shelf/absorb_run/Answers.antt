@@ -5,9 +5,9 @@ use Rattle.la_set.specs.Histories.{count, truncate, updates_of}
 use Rattle.la_set.specs.Inclusion.{IsSubset}
 use Rattle.la_object.specs.Shelves.{ShelfState, IsFirstMore}
 use Rattle.la_object.specs.Objects.{meaning}
-use Rattle.la_object.proofs.Lawful.{lawful}
+use Rattle.la_object.proofs.lemmas.Lawful.{lawful}
 use Rattle.la_object.proofs.lemmas.Rows.{rows}
-use Rattle.la_shelf.proofs.Runs.{run-length, run-count, beyond-length, ends-HasTaken}
+use Rattle.la_shelf.proofs.lemmas.Runs.{run-length, run-count, beyond-length, ends-HasTaken}
 use Rattle.la_object.proofs.Runs.{run-HaveRoom, ends-IsShelf}
 use Rattle.la_object.proofs.shelf.Shelf.absorb_run.Goals as goal
 

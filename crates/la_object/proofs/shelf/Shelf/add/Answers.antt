@@ -5,8 +5,8 @@ use Rattle.la_object.specs.Objects.{kind_of, start, steps, after, of_object, Has
 use Rattle.indexmap.specs.IndexMap.{get}
 use Rattle.indexmap.proofs.CallerLemmas.{insert_entry-new}
 use Rattle.la_object.specs.Shelves.{ShelfState, kinds, kind_at, IsShelf}
-use Rattle.la_shelf.proofs.Rows.{taken_own, taken_other, some_at, added-kind, added-agree, push-row-IsShelf, none_from, is_some-kind_at}
-use Rattle.la_object.proofs.Lawful.{lawful}
+use Rattle.la_shelf.proofs.lemmas.Rows.{taken_own, taken_other, some_at, added-kind, added-agree, push-row-IsShelf, none_from, is_some-kind_at}
+use Rattle.la_object.proofs.lemmas.Lawful.{lawful}
 use Rattle.la_object.proofs.lemmas.Rows.{rows, rows-push, kinds-push, taken-HasRoom}
 use Rattle.la_object.proofs.shelf.Shelf.add.Goals as goal
 use Rattle.la_object.proofs.shelf.Shelf.add.Goals.{in-Some+then-update-number+in-Ok, in-Some+else-update-number, in_default}

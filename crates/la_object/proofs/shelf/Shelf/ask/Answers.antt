@@ -2,8 +2,8 @@ use Rattle.std.proofs.Common.{◌≡◌, false, Some, None, sym, subst}
 use Rattle.std.specs.Option.{IsSome, IsSomeAnd}
 use Rattle.la_object.specs.Objects.{answers_a_list, meaning}
 use Rattle.la_object.specs.Shelves.{ShelfState, kind_at, answer_at}
-use Rattle.la_shelf.proofs.Rows.{lookup-answer, lookup-kind, lookup-none}
-use Rattle.la_object.proofs.Lawful.{lawful}
+use Rattle.la_shelf.proofs.lemmas.Rows.{lookup-answer, lookup-kind, lookup-none}
+use Rattle.la_object.proofs.lemmas.Lawful.{lawful}
 use Rattle.la_object.proofs.lemmas.Rows.{lookup-listing}
 use Rattle.la_object.proofs.shelf.Shelf.ask.Goals as goal
 

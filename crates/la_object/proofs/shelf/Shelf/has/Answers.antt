@@ -1,8 +1,8 @@
 use Rattle.std.proofs.Common.{is_some, ap, ◌∙◌}
 use Rattle.la_object.specs.Shelves.{ShelfState, kind_at}
-use Rattle.la_shelf.proofs.Rows.{is_some-kind_at}
+use Rattle.la_shelf.proofs.lemmas.Rows.{is_some-kind_at}
 use Rattle.la_object.specs.Objects.{meaning}
-use Rattle.la_object.proofs.Lawful.{lawful}
+use Rattle.la_object.proofs.lemmas.Lawful.{lawful}
 use Rattle.la_object.proofs.shelf.Shelf.has.Goals as goal
 
 pub returns : goal.returns

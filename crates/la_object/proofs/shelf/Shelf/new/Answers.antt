@@ -5,9 +5,9 @@ use Rattle.std.proofs.lemmas.List.Elements.{All-nil}
 use Rattle.la_set.specs.Histories.{updates}
 use Rattle.la_object.specs.Shelves.{IsSmall}
 use Rattle.la_shelf.specs.Shelves.{IsObject}
-use Rattle.la_shelf.proofs.Rows.{updates-empty}
+use Rattle.la_shelf.proofs.lemmas.Rows.{updates-empty}
 use Rattle.la_object.specs.Objects.{meaning}
-use Rattle.la_object.proofs.Lawful.{lawful}
+use Rattle.la_object.proofs.lemmas.Lawful.{lawful}
 use Rattle.la_object.proofs.lemmas.Rows.{rows}
 use Rattle.la_object.proofs.shelf.Shelf.new.Goals as goal
 

@@ -3,8 +3,8 @@ use Rattle.std.specs.Option.{IsSomeAnd, option_map}
 use Rattle.la_object.specs.Objects.{tags_by, tags_of, meaning}
 use Rattle.la_object.specs.Refusals.{IsObserveRefusal}
 use Rattle.la_object.specs.Shelves.{ShelfState, tags_at, updates_at}
-use Rattle.la_shelf.proofs.Rows.{lookup-none}
-use Rattle.la_object.proofs.Lawful.{lawful}
+use Rattle.la_shelf.proofs.lemmas.Rows.{lookup-none}
+use Rattle.la_object.proofs.lemmas.Lawful.{lawful}
 use Rattle.la_object.proofs.lemmas.Rows.{lookup-tags}
 use Rattle.la_object.proofs.shelf.Shelf.observed.Goals as goal
 

@@ -2,9 +2,9 @@ use Rattle.std.proofs.Common.{◌≡◌, nat_eq, Some, None, ap, ◌∙◌, sym,
 use Rattle.std.specs.Option.{IsSome}
 use Rattle.std.specs.Map.{remove_entry}
 use Rattle.la_object.specs.Shelves.{ShelfState, kinds, kind_at, state_at, IsShelf}
-use Rattle.la_shelf.proofs.Rows.{kinds-remove, remove-IsShelf, lookup-state, lookup-kind, lookup-none}
+use Rattle.la_shelf.proofs.lemmas.Rows.{kinds-remove, remove-IsShelf, lookup-state, lookup-kind, lookup-none}
 use Rattle.la_object.specs.Objects.{meaning}
-use Rattle.la_object.proofs.Lawful.{lawful}
+use Rattle.la_object.proofs.lemmas.Lawful.{lawful}
 use Rattle.la_object.proofs.lemmas.Rows.{rows}
 use Rattle.la_object.proofs.shelf.Shelf.retire.Goals as goal
 

@@ -5,7 +5,7 @@ use Rattle.la_set.specs.Histories.{Histories}
 use Rattle.la_shelf.specs.Meanings.{IsLawful}
 use Rattle.la_shelf.specs.Laws.{CommutesById}
 use Rattle.la_shelf.specs.Shelves.{updates_at}
-use Rattle.la_shelf.proofs.Rows as shelf
+use Rattle.la_shelf.proofs.lemmas.Rows as shelf
 use Rattle.la_object.specs.declared.kind.Kind.{Kind}
 use Rattle.la_object.specs.declared.kind.Kind.TheVariants.{Counter as CounterKind, MaxRegister, OrSet}
 use Rattle.la_object.specs.Objects.{meaning, start, kind_of}
