@@ -9,11 +9,12 @@ use Rattle.la_set.specs.Deltas.{AreNext}
 use Rattle.la_set.proofs.lemmas.Places.{count_before-more, count_before_none, updates_count_before}
 use Rattle.la_set.proofs.lemmas.SetHistories.{count-push}
 use Rattle.la_set.proofs.lemmas.Inclusions.{subset-count}
+use Rattle.la_shelf.specs.Shelves.{all_absorbed}
 use Rattle.la_shelf.proofs.lemmas.Runs as shelf
 use Rattle.la_shelf.proofs.lemmas.Rows.{run-IsShelf}
 use Rattle.la_object.specs.declared.state.State.{State}
 use Rattle.la_object.specs.Objects.{meaning}
-use Rattle.la_object.specs.Shelves.{all_absorbed, HaveRoom, IsFirstMore, IsShelf, IsSmall}
+use Rattle.la_object.specs.Shelves.{HaveRoom, IsFirstMore, IsClosedShelf, IsSmall}
 use Rattle.la_object.proofs.lemmas.Lawful.{lawful}
 use Rattle.la_object.proofs.lemmas.Rows.{rows, shelf-HaveRoom, small-run}
 
@@ -40,7 +41,8 @@ few-updates s within = omega (
   within 7,
 )
 
-run-limit : (view : Histories) (us : List Update) → AreNext view us → IsWithinLimit view → IsWithinLimit (fold push view us)
+run-limit : (view : Histories) (us : List Update) → AreNext view us → IsWithinLimit view
+    → IsWithinLimit (fold push view us)
 run-limit view [] next limit = limit
 run-limit view (u ∷ us) next limit = run-limit (push view u) us next.1 (count-push view u next.0 limit)
 
@@ -50,9 +52,9 @@ module _ (view set : Histories) (sub : IsSubset view set) (r : ℕ) (first : IsF
   next : (k : ℕ) → AreNext view (take k us)
   next k = shelf.run-next meaning lawful view set sub r first limit us run k
 
-  pub run-HaveRoom : (ss : List (ℕ × State)) → IsShelf view ss → (k : ℕ) → All IsSmall (take k us)
-      → HaveRoom (all_absorbed ss (take k us))
-  run-HaveRoom ss keeps k small = shelf-HaveRoom (fold push view (take k us)) (all_absorbed ss (take k us))
+  pub run-HaveRoom : (ss : List (ℕ × State)) → IsClosedShelf view ss → (k : ℕ) → All IsSmall (take k us)
+      → HaveRoom (all_absorbed meaning ss (take k us))
+  run-HaveRoom ss keeps k small = shelf-HaveRoom (fold push view (take k us)) (all_absorbed meaning ss (take k us))
       (record {
         objects = run-IsShelf meaning lawful view ss (take k us) (next k) keeps.objects;
         small = small-run view (take k us) (next k) small keeps.small;
@@ -61,8 +63,8 @@ module _ (view set : Histories) (sub : IsSubset view set) (r : ℕ) (first : IsF
 
   -- what is a shelf's once the first so many are absorbed: the objects after the run, and the view that was held ready
   module _ (many : ℕ) (few : many ≤ length us) {B : Type 0} (f : B → State) (es es' : List (ℕ × B))
-      (ready view' : Histories) (keeps : IsShelf view (rows f es))
-      (some : rows f es' ≡ all_absorbed (rows f es) (take many us)) (small : All IsSmall (take many us))
+      (ready view' : Histories) (keeps : IsClosedShelf view (rows f es))
+      (some : rows f es' ≡ all_absorbed meaning (rows f es) (take many us)) (small : All IsSmall (take many us))
       (held : ready ≡ with_history view r (history set r)) (cut : view' ≡ truncate ready r (count view r + many)) where
     view-is : view' ≡ fold push view (take many us)
     view-is =
@@ -70,10 +72,11 @@ module _ (view set : Histories) (sub : IsSubset view set) (r : ℕ) (first : IsF
         held cut
         ∙ ap (fold push view) (shelf.same_front meaning lawful view set sub r first limit us run many few)
 
-    pub ends-IsShelf : IsShelf view' (rows f es')
+    pub ends-IsShelf : IsClosedShelf view' (rows f es')
     ends-IsShelf = record {
       objects =
-          shelf.ends-IsShelf meaning lawful view set sub r first limit us run many few f es es' ready view' keeps.objects
+          shelf.ends-IsShelf meaning lawful view set sub r first limit us run many few f es es' ready view'
+          keeps.objects
           some held cut;
       small =
           subst (λ v. All IsSmall (updates v)) (sym view-is)

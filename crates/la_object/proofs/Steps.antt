@@ -88,7 +88,9 @@ with_ids-swap gone xs ys = set.same_set id_cmp_total id_cmp-IsAntisymmetric _ _ 
     (set.contains-union id_cmp_total gone (set.from_list xs) q)
     ∙ or_last_two (set.contains gone q) (set.contains {R = id_cmp} (set.from_list {R = id_cmp} xs) q)
     (set.contains {R = id_cmp} (set.from_list {R = id_cmp} ys) q)
-    ∙ sym (set.contains-union id_cmp_total _ _ q ∙ ap (λ b. b || set.contains {R = id_cmp} (set.from_list {R = id_cmp} xs) q) (set.contains-union id_cmp_total gone (set.from_list ys) q)))
+    ∙ sym (set.contains-union id_cmp_total _ _ q
+    ∙ ap (λ b. b || set.contains {R = id_cmp} (set.from_list {R = id_cmp} xs) q)
+    (set.contains-union id_cmp_total gone (set.from_list ys) q)))
 
 -- two steps with different ids commute
 pub after-swap : (s : State) (u v : Update) → u.id ≢ v.id → after (after s u) v ≡ after (after s v) u

@@ -179,7 +179,11 @@ module _ (gone : UpdateId → Bool) (x : ℕ) where
           ≡ list_map (λ (v : Update). v.id)
           (cond (is_element x (cond b None (Some y))) (u ∷ filter is_live us) (filter is_live us))) [
             | true ↦ rest
-            | false ↦ elim (y == x) as (λ c. list_map (λ (e : Entry). e.0) (cond c ((u.id, y) ∷ filter is_left (filter_map put_by us)) (filter is_left (filter_map put_by us))) ≡ list_map (λ (v : Update). v.id) (cond c (u ∷ filter is_live us) (filter is_live us))) [ true ↦ ap (λ ids. u.id ∷ ids) rest | false ↦ rest ]
+            | false ↦ elim (y == x)
+                as (λ c. list_map (λ (e : Entry). e.0)
+                (cond c ((u.id, y) ∷ filter is_left (filter_map put_by us)) (filter is_left (filter_map put_by us)))
+                ≡ list_map (λ (v : Update). v.id) (cond c (u ∷ filter is_live us) (filter is_live us)))
+                [ true ↦ ap (λ ids. u.id ∷ ids) rest | false ↦ rest ]
           ]
 
 -- the tags that the steps hold are those that are live

@@ -22,10 +22,6 @@ ShelfState = shelf.ShelfState Kind
 abbrev pub operations_at : Histories → ℕ → Kind → List Update
 operations_at view number kind = filter (λ u. is_of_kind kind u.op) (updates_at view number)
 
--- the state that an object's updates lead it to
-abbrev pub state_by : Histories → ℕ → Kind → State
-state_by view number kind = shelf.state_by meaning view number kind
-
 -- what the object under a number answers, by the view
 abbrev pub answer_at : ShelfState → ℕ → Query → Option Answer
 answer_at s number query = shelf.answer_at meaning s number query
@@ -35,7 +31,7 @@ abbrev pub tags_at : ShelfState → ℕ → ℕ → Option (List UpdateId)
 tags_at s number x =
     option_map (λ kind. tags_by kind (updates_at s.view number) x) (kind_at s.objects number)
 
--- its state
+-- its state, the one that its updates lead to
 abbrev pub state_at : ShelfState → ℕ → Option State
 state_at s number = shelf.state_at meaning s number
 
@@ -50,13 +46,6 @@ pub record IsOneObject (number : ℕ) (kind : Kind) (a b : ShelfState) : Type 0 
 abbrev pub kinds : List (ℕ × State) → List (ℕ × Kind)
 kinds ss = shelf.kinds meaning ss
 
--- the rows after one more update, and after more: each goes to the object with its number
-abbrev pub absorbed : List (ℕ × State) → Update → List (ℕ × State)
-absorbed ss u = shelf.absorbed meaning ss u
-
-abbrev pub all_absorbed : List (ℕ × State) → List Update → List (ℕ × State)
-all_absorbed ss us = shelf.all_absorbed meaning ss us
-
 -- each object has room for one more update
 abbrev pub HaveRoom : List (ℕ × State) → Type 0
 HaveRoom ss = All (λ p. HasRoom p.1) ss
@@ -65,6 +54,6 @@ HaveRoom ss = All (λ p. HasRoom p.1) ss
 abbrev pub IsSmall : Update → Type 0
 IsSmall u = (increment u.op < 2 ^ 32) × (decrement u.op < 2 ^ 32)
 
-pub record IsShelf (view : Histories) (ss : List (ℕ × State)) : Type 0 where
+pub record IsClosedShelf (view : Histories) (ss : List (ℕ × State)) : Type 0 where
   pub objects : shelf.IsShelf meaning view ss
   pub small : All IsSmall (updates view)

@@ -18,7 +18,7 @@ use Rattle.la_object.specs.declared.kind.Kind.{Kind}
 use Rattle.la_object.specs.declared.query.Query.{Query}
 use Rattle.la_object.specs.declared.state.State.{State}
 use Rattle.la_object.specs.Objects.{meaning, steps, start, kind_of, HasRoom, of_object, tags_of, tags_by, answers_a_list}
-use Rattle.la_object.specs.Shelves.{kinds, HaveRoom, IsSmall, IsShelf, kind_at, updates_at, tags_at}
+use Rattle.la_object.specs.Shelves.{kinds, HaveRoom, IsSmall, IsClosedShelf, kind_at, updates_at, tags_at}
 use Rattle.la_object.proofs.Replies.{steps-HasRoom, tags-steps}
 use Rattle.la_object.proofs.lemmas.Lawful.{lawful, ascending-view}
 
@@ -88,12 +88,14 @@ taken-HasRoom view kind k n small few =
     (omega (arith, few, length-filter-le own (take n (updates view)), length-take n (updates view)))
 
 -- the objects of a shelf have room
-pub shelf-HaveRoom : (view : Histories) (ss : List (ℕ × State)) → IsShelf view ss → length (updates view) ≤ 8000000
+pub shelf-HaveRoom : (view : Histories) (ss : List (ℕ × State)) → IsClosedShelf view ss
+    → length (updates view) ≤ 8000000
     → HaveRoom ss
 shelf-HaveRoom view ss keeps few = All-weaker (IsObject meaning view) (λ p. HasRoom p.1) (λ p is.
     let own : Update → Bool = λ u. u.object == p.0 in
     subst HasRoom (sym is)
-    (steps-HasRoom (kind_of p.1) (of_object p.0 (updates view)) (All-filter own IsSmall (updates view) keeps.small) (omega (arith, few, length-filter-le own (updates view))))) ss keeps.objects.agree
+    (steps-HasRoom (kind_of p.1) (of_object p.0 (updates view)) (All-filter own IsSmall (updates view) keeps.small)
+    (omega (arith, few, length-filter-le own (updates view))))) ss keeps.objects.agree
 
 pub row-HasRoom : (ss : List (ℕ × State)) (i k : ℕ) (t : State) → HaveRoom ss → slice_get ss i ≡ Some (k, t) → HasRoom t
 row-HasRoom ss i k t room at =

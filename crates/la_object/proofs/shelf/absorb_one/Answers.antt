@@ -16,7 +16,8 @@ on_err (Err e) f p = f p
 pub returns-in_default-clause-ok : goal.returns-in_default-clause-ok
 returns-in_default-clause-ok g c =
     let f = g.B.Replicated.state in let es = c.args.objects.now.entries in let u = c.args.update.now in
-    sym (absorbed-lacks meaning lawful u (rows f es) (lacks_from_lookup meaning lawful f u.object es c.in_default.ensures))
+    sym (absorbed-lacks meaning lawful u (rows f es)
+    (lacks_from_lookup meaning lawful f u.object es c.in_default.ensures))
 
 pub absorb-requires : goal.absorb-requires
 absorb-requires g c =
@@ -35,7 +36,8 @@ pub returns-clause-ok : goal.returns-clause-ok
 returns-clause-ok g c =
     let f = g.B.Replicated.state in let es = c.args.objects.now.entries in
     on_ok c.absorb.result
-    (rows-absorbed meaning lawful f es c.in-Some.place c.args.update.now c.in-Some-get_index_mut.object.now c.absorb.new.self
+    (rows-absorbed meaning lawful f es c.in-Some.place c.args.update.now c.in-Some-get_index_mut.object.now
+    c.absorb.new.self
     c.in-Some.ensures (sym c.in-Some-get_index_mut.ensures.value) c.in-Some-get_index_mut.ensures.unique)
     c.absorb.ensures.ok
 
@@ -43,5 +45,6 @@ pub returns-clause-err : goal.returns-clause-err
 returns-clause-err g c =
     let f = g.B.Replicated.state in let es = c.args.objects.now.entries in
     on_err c.absorb.result
-    (rows-same meaning lawful f es c.in-Some.place c.args.update.now c.in-Some-get_index_mut.object.now c.absorb.new.self
+    (rows-same meaning lawful f es c.in-Some.place c.args.update.now c.in-Some-get_index_mut.object.now
+    c.absorb.new.self
     c.in-Some.ensures (sym c.in-Some-get_index_mut.ensures.value)) c.absorb.ensures.err

@@ -26,7 +26,8 @@ overflow_add-done g c =
 
 pub loop-replica-preserved : goal.loop-replica-preserved
 loop-replica-preserved g c =
-    more-HasTaken meaning lawful c.args.self.now c.loop-replica.self c.absorb_run.new.self c.args.set.now c.loop-replica.done
+    more-HasTaken meaning lawful c.args.self.now c.loop-replica.self c.absorb_run.new.self c.args.set.now
+    c.loop-replica.done
     c.in-Ok.many c.loop-replica.invariant c.in-Ok.ensures.ok
 
 pub overflow_add-result : goal.overflow_add-result
@@ -47,7 +48,8 @@ pub returns-in-Err-clause-error : goal.returns-in-Err-clause-error
 returns-in-Err-clause-error g c =
     let old = c.args.self.now in let set = c.args.set.now in let done = c.loop-replica.done in
     let more =
-    more-HasTaken meaning lawful old c.loop-replica.self c.absorb_run.new.self set done c.in-Err.many c.loop-replica.invariant
+    more-HasTaken meaning lawful old c.loop-replica.self c.absorb_run.new.self set done c.in-Err.many
+    c.loop-replica.invariant
     c.in-Err.ensures.err in (
       c.requires,
       (

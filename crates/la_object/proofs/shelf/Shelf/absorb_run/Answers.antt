@@ -15,7 +15,8 @@ pub returns-in_default-clause-fewer : goal.returns-in_default-clause-fewer
 returns-in_default-clause-fewer g c =
     omega (
       arith,
-      beyond-length meaning lawful c.args.self.now.view c.args.set.now c.requires.within c.args.replica c.requires.first,
+      beyond-length meaning lawful c.args.self.now.view c.args.set.now c.requires.within c.args.replica
+          c.requires.first,
       c.requires.first.more,
     )
 
@@ -23,7 +24,8 @@ pub returns-in_default-run-clause-fewer : goal.returns-in_default-run-clause-few
 returns-in_default-run-clause-fewer g c =
     omega (
       arith,
-      beyond-length meaning lawful c.args.self.now.view c.args.set.now c.requires.within c.args.replica c.requires.first,
+      beyond-length meaning lawful c.args.self.now.view c.args.set.now c.requires.within c.args.replica
+          c.requires.first,
       c.requires.first.more,
     )
 

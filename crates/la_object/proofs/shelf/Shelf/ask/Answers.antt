@@ -21,15 +21,22 @@ returns-in-Err-clause-error g c = subst (λ (s : ShelfState). IsSome (kind_at s.
 
 pub returns-in_default-clause-error : goal.returns-in_default-clause-error
 returns-in_default-clause-error g c = subst (λ (s : ShelfState). kind_at s.objects c.args.number ≡ None) c.self.view_is
-    (lookup-none meaning lawful g.B.Replicated.state c.args.number c.self.inside.objects.entries (sym c.in_default.ensures.value))
+    (lookup-none meaning lawful g.B.Replicated.state c.args.number c.self.inside.objects.entries
+    (sym c.in_default.ensures.value))
 
 pub returns-in-Err-clause-room : goal.returns-in-Err-clause-room
 returns-in-Err-clause-room g c none =
     let query = c.args.query.now in
-    c.in-Err.ensures.room (lookup-listing c.self.inside.view g.B.Replicated.state c.args.number c.self.inside.objects.entries c.in-Some.object.now c.self.invariant.objects.agree (sym c.in-Some.ensures.value) query
-    (subst (λ (s : ShelfState). IsSomeAnd (kind_at s.objects c.args.number) (λ kind. answers_a_list kind query ≡ false)) (sym c.self.view_is) none))
+    c.in-Err.ensures.room
+    (lookup-listing c.self.inside.view g.B.Replicated.state c.args.number c.self.inside.objects.entries
+    c.in-Some.object.now c.self.invariant.objects.agree (sym c.in-Some.ensures.value) query
+    (subst (λ (s : ShelfState). IsSomeAnd (kind_at s.objects c.args.number) (λ kind. answers_a_list kind query ≡ false))
+    (sym c.self.view_is) none))
 
 pub returns-in_default-clause-room : goal.returns-in_default-clause-room
 returns-in_default-clause-room g c none = absurd
-    (subst (λ o. IsSomeAnd o (λ kind. answers_a_list kind c.args.query.now ≡ false)) (lookup-none meaning lawful g.B.Replicated.state c.args.number c.self.inside.objects.entries (sym c.in_default.ensures.value))
-    (subst (λ (s : ShelfState). IsSomeAnd (kind_at s.objects c.args.number) (λ kind. answers_a_list kind c.args.query.now ≡ false)) (sym c.self.view_is) none))
+    (subst (λ o. IsSomeAnd o (λ kind. answers_a_list kind c.args.query.now ≡ false))
+    (lookup-none meaning lawful g.B.Replicated.state c.args.number c.self.inside.objects.entries
+    (sym c.in_default.ensures.value))
+    (subst (λ (s : ShelfState). IsSomeAnd (kind_at s.objects c.args.number)
+    (λ kind. answers_a_list kind c.args.query.now ≡ false)) (sym c.self.view_is) none))

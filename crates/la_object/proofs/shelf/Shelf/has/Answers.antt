@@ -7,5 +7,6 @@ use Rattle.la_object.proofs.shelf.Shelf.has.Goals as goal
 
 pub returns : goal.returns
 returns g c =
-    c.contains_key.ensures ∙ is_some-kind_at meaning lawful g.B.Replicated.state c.args.number c.self.inside.objects.entries
+    c.contains_key.ensures
+    ∙ is_some-kind_at meaning lawful g.B.Replicated.state c.args.number c.self.inside.objects.entries
     ∙ ap (λ (s : ShelfState). is_some (kind_at s.objects c.args.number)) c.self.view_is

@@ -1,7 +1,7 @@
 use Rattle.std.proofs.Common.{◌≡◌, nat_eq, Some, None, ap, ◌∙◌, sym, subst}
 use Rattle.std.specs.Option.{IsSome}
 use Rattle.std.specs.Map.{remove_entry}
-use Rattle.la_object.specs.Shelves.{ShelfState, kinds, kind_at, state_at, IsShelf}
+use Rattle.la_object.specs.Shelves.{ShelfState, kinds, kind_at, state_at, IsClosedShelf}
 use Rattle.la_shelf.proofs.lemmas.Rows.{kinds-remove, remove-IsShelf, lookup-state, lookup-kind, lookup-none}
 use Rattle.la_object.specs.Objects.{meaning}
 use Rattle.la_object.proofs.lemmas.Lawful.{lawful}
@@ -11,7 +11,7 @@ use Rattle.la_object.proofs.shelf.Shelf.retire.Goals as goal
 pub invariant_of-self : goal.invariant_of-self
 invariant_of-self g c =
     let f = g.B.Replicated.state in let es = c.self.inside.objects.entries in
-    subst (λ xs. IsShelf c.self.inside.view (rows f xs)) (sym c.shift_remove.ensures.entries)
+    subst (λ xs. IsClosedShelf c.self.inside.view (rows f xs)) (sym c.shift_remove.ensures.entries)
     (record {
       objects = remove-IsShelf meaning lawful c.self.inside.view f c.args.number es c.self.invariant.objects;
       small = c.self.invariant.small;
@@ -39,4 +39,5 @@ returns-in_default-state-clause-error g c =
 
 pub returns-in_default-clause-error : goal.returns-in_default-clause-error
 returns-in_default-clause-error g c = subst (λ (s : ShelfState). kind_at s.objects c.args.number ≡ None) c.self.view_is
-    (lookup-none meaning lawful g.B.Replicated.state c.args.number c.self.inside.objects.entries (sym c.in_default.ensures.value))
+    (lookup-none meaning lawful g.B.Replicated.state c.args.number c.self.inside.objects.entries
+    (sym c.in_default.ensures.value))
