@@ -3,4 +3,7 @@
 //! for word.
 #![tactic(auto)]
 
+pub mod notes;
+pub mod shelves;
 pub mod statuses;
+pub mod tallies;

@@ -1,4 +1,4 @@
-ghost use Rattle.std.specs.Prelude.{◌≡◌};
+ghost use Rattle.std.specs.Prelude.{◌≡◌, None, replicate};
 
 use la_set::{Op, REPLICAS, Update};
 use la_shelf::{Absorbs, Refusal};
@@ -12,22 +12,28 @@ pub struct Status {
 
 impl Status {
     /// A status where no replica has put anything. It takes no memory.
-    pub fn new() -> Status {
+    pub fn new() -> Status
+        ensures { result.last ≡ replicate 8 None }
+    {
         Status { last: [None; 8] }
     }
 }
 
 impl Absorbs for Status {
+    ghost use Rattle.std.proofs.Common.{rules};
     ghost use Rattle.uses_types.specs.Statuses.{status_meaning, status_lawful};
 
     type Kind = ();
+
     type State = [Option<u64>; 8];
+
     type Query = u8;
+
     type Answer = Option<u64>;
 
     ghost state = { λ status. status.last };
 
-    ghost meaning = { status_meaning };
+    ghost meaning = { status_meaning (λ id. id.replica) };
 
     fn fresh(&self) -> bool {
         self.last == [None; 8]
@@ -53,5 +59,5 @@ impl Absorbs for Status {
         Ok(self.last)
     }
 
-    ghost lawful = { status_lawful };
+    ghost lawful = { status_lawful (λ id. id.replica) (λ a b apart. Prim.search rules) };
 }
