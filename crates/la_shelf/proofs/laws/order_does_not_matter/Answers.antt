@@ -1,5 +1,5 @@
 use Rattle.std.proofs.Common.{ap, ◌∙◌}
-use Rattle.la_shelf.proofs.Orders.{steps-IsPermutation, ascending-distinct}
+use Rattle.la_shelf.proofs.lemmas.Orders.{steps-IsPermutation, ascending-distinct}
 use Rattle.la_shelf.proofs.laws.order_does_not_matter.Goals as goal
 
 pub returns-clause-states : goal.returns-clause-states
