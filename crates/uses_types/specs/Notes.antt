@@ -1,5 +1,6 @@
 -- Notes of a replica: what it put, in its order.
-use Rattle.std.proofs.Common.{◌≡◌, ◌≢◌, ℕ, false, cond, List, [], ◌∷◌, ◌++◌, fold, Option, Some, None, refl, ap, sym, ◌∙◌, append_assoc, inl, inr}
+use Rattle.std.proofs.Common.{◌≡◌, ◌≢◌, ℕ, false, cond, List, [], ◌∷◌, ◌++◌, fold, Option, Some, None, refl, ap, sym}
+use Rattle.std.proofs.Common.{◌∙◌, append_assoc, inl, inr}
 use Rattle.std.specs.Prelude.{◌⊎◌}
 use Rattle.std.specs.List.{filter_map, cons_option}
 use Rattle.std.proofs.lemmas.Bool.{cases_eq, ne_eqb}
@@ -28,7 +29,8 @@ notes_meaning = record {
 -- ## The law
 
 -- of two updates of different replicas one notes nothing
-one_notes_none : (replica : ℕ) (u v : Update) → u.id.replica ≢ v.id.replica → (note_of replica u ≡ None) ⊎ (note_of replica v ≡ None)
+one_notes_none : (replica : ℕ) (u v : Update) → u.id.replica ≢ v.id.replica
+    → (note_of replica u ≡ None) ⊎ (note_of replica v ≡ None)
 one_notes_none replica u v ne = by (cases_eq u.id.replica replica)
   where
     by : ((u.id.replica ≡ replica) ⊎ (u.id.replica ≢ replica)) → (note_of replica u ≡ None) ⊎ (note_of replica v ≡ None)
@@ -52,7 +54,8 @@ consed : (o : Option ℕ) (ys : List ℕ) → cons_option o [] ++ ys ≡ cons_op
 consed None ys = refl
 consed (Some x) ys = refl
 
-noted : (replica : ℕ) (xs : List ℕ) (us : List Update) → fold notes_after (replica, xs) us ≡ (replica, xs ++ filter_map (note_of replica) us)
+noted : (replica : ℕ) (xs : List ℕ) (us : List Update) → fold notes_after (replica, xs) us
+    ≡ (replica, xs ++ filter_map (note_of replica) us)
 noted replica xs [] = λ i. (replica, sym (append-nil xs) i)
 noted replica xs (u ∷ us) =
     noted replica (xs ++ cons_option (note_of replica u) []) us

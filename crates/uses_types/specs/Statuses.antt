@@ -1,5 +1,6 @@
 -- The status of each replica, at a place of its own: the value of its last Put.
-use Rattle.std.proofs.Common.{◌≡◌, ◌≢◌, ℕ, suc, zero, ◌<◌, ◌≤◌, ◌==◌, nat_lt, true, cond, List, [], ◌∷◌, length, get_or, set, replicate, fold, Option, Some, None, refl, ap, sym, ◌∙◌, arith, inl, inr}
+use Rattle.std.proofs.Common.{◌≡◌, ◌≢◌, ℕ, suc, zero, ◌<◌, ◌≤◌, ◌==◌, nat_lt, true, cond, List, [], ◌∷◌, length, get_or}
+use Rattle.std.proofs.Common.{set, replicate, fold, Option, Some, None, refl, ap, sym, ◌∙◌, arith, inl, inr}
 use Rattle.std.specs.Prelude.{◌⊎◌, if◌then◌else◌}
 use Rattle.std.specs.List.{filter_map, last_or, cons_option}
 use Rattle.std.proofs.lemmas.Bool.{cases_eq, cases_lt, eq-eqb, ne_eqb, lt-ltb, le-ltb}
@@ -45,7 +46,8 @@ module _ (place_of : UpdateId → ℕ) where
 
 -- ## The law
 
-swap : (s : List (Option ℕ)) (r q : ℕ) (a b : Option ℕ) → r ≢ q → with_put (with_put s r a) q b ≡ with_put (with_put s q b) r a
+swap : (s : List (Option ℕ)) (r q : ℕ) (a b : Option ℕ) → r ≢ q → with_put (with_put s r a) q b
+    ≡ with_put (with_put s q b) r a
 swap s r q None None ne = refl
 swap s r q (Some x) None ne = refl
 swap s r q None (Some y) ne = refl
@@ -57,7 +59,8 @@ keeps_length s r (Some x) = length-set s r (Some x)
 
 -- what stands at a place after a put
 at_put : (s : List (Option ℕ)) (r place : ℕ) (o : Option ℕ) → place < length s
-    → get_or (with_put s r o) place None ≡ last_or (get_or s place None) (cons_option (if r == place then o else None) [])
+    → get_or (with_put s r o) place None
+        ≡ last_or (get_or s place None) (cons_option (if r == place then o else None) [])
 at_put s r place o lt = by o (cases_eq r place)
   where
     by : (o : Option ℕ) → ((r ≡ place) ⊎ (r ≢ place))
@@ -102,21 +105,25 @@ module _ (place_of : UpdateId → ℕ) where
   keeps_length_all s [] = refl
   keeps_length_all s (u ∷ us) = keeps_length_all (after s u) us ∙ keeps_length s (place_of u.id) (put_by u.op)
 
-  means : (us : List Update) (place : ℕ) → get_or (fold after (replicate 8 None) us) place None ≡ last_put place_of us place
+  means : (us : List Update) (place : ℕ) → get_or (fold after (replicate 8 None) us) place None
+      ≡ last_put place_of us place
   unfolding puts
   means us place = by (cases_lt place 8)
     where
-      by : ((place < 8) ⊎ (8 ≤ place)) → get_or (fold after (replicate 8 None) us) place None ≡ last_put place_of us place
+      by : ((place < 8) ⊎ (8 ≤ place)) → get_or (fold after (replicate 8 None) us) place None
+          ≡ last_put place_of us place
       by (inl lt) =
           at_end (replicate 8 None) us place lt
           ∙ ap (λ o. last_or o (puts place us)) (none_at 8 place)
           ∙ ap (λ b. cond b (last_or None (puts place us)) None) (sym (lt-ltb place 8 lt))
       by (inr past) =
-          get_or_past (fold after (replicate 8 None) us) place None (omega (arith, past, keeps_length_all (replicate 8 None) us))
+          get_or_past (fold after (replicate 8 None) us) place None
+              (omega (arith, past, keeps_length_all (replicate 8 None) us))
           ∙ ap (λ b. cond b (last_or None (puts place us)) None) (sym (le-ltb place 8 past))
 
   -- lawful, where updates of different replicas have different places
-  pub status_lawful : ((a b : UpdateId) → a.replica ≢ b.replica → place_of a ≢ place_of b) → IsLawful (status_meaning place_of)
+  pub status_lawful : ((a b : UpdateId) → a.replica ≢ b.replica → place_of a ≢ place_of b)
+      → IsLawful (status_meaning place_of)
   status_lawful apart = record {
     commutes = λ s u v ne. swap s (place_of u.id) (place_of v.id) (put_by u.op) (put_by v.op) (apart u.id v.id ne);
     keeps = λ s u. refl;

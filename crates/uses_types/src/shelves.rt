@@ -1,7 +1,7 @@
 ghost use Rattle.std.specs.Prelude.{◌≡◌, Some, None, IfOk, sum_by};
 ghost use Rattle.la_shelf.specs.Shelves.{kind_at, updates_at};
 ghost use Rattle.uses_types.specs.Statuses.{last_put};
-ghost use Rattle.uses_types.specs.Tallies.{added};
+ghost use Rattle.uses_types.specs.Tallies.{tallied};
 
 use crate::statuses::Status;
 use crate::tallies::Tally;
@@ -18,7 +18,7 @@ pub fn status_and_total(
 ) -> Result<(Option<u64>, u64), ShelfError>
     ensures status { IfOk result (λ it.
         it.0 ≡ last_put (λ id. id.replica) (updates_at view.now 1) replica) }
-    ensures total { IfOk result (λ it. it.1 ≡ sum_by added (updates_at view.now 2)) }
+    ensures total { IfOk result (λ it. it.1 ≡ sum_by tallied (updates_at view.now 2)) }
 {
     let mut shelf = Shelf::new(alloc);
     shelf.add(1, Either::First(Status::new()))?;

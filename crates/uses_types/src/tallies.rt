@@ -1,7 +1,7 @@
 ghost use Rattle.std.specs.Prelude.{◌≡◌, List, IsPermutation, fold, sum_by};
 ghost use Rattle.la_set.specs.declared.update.Update.{Update};
 ghost use Rattle.la_shelf.specs.Meanings.{AreAscending};
-ghost use Rattle.uses_types.specs.Tallies.{added, tally_after};
+ghost use Rattle.uses_types.specs.Tallies.{after_tallied, tallied};
 
 use la_set::{Op, Update};
 use la_shelf::{Absorbs, Refusal, laws};
@@ -68,7 +68,7 @@ impl Absorbs for Tally {
 /// commute wherever their ids differ.
 pub fn order_does_not_matter()
     ensures { (us order : List Update) → AreAscending us → IsPermutation us order
-        → (fold tally_after (0, 0) order).1 ≡ sum_by added us }
+        → (fold after_tallied (0, 0) order).1 ≡ sum_by tallied us }
 {
     laws::order_does_not_matter::<Tally>();
 }

@@ -1,5 +1,6 @@
 -- Where steps commute wherever ids differ, updates with distinct ids lead to one state in any order.
-use Rattle.std.proofs.Common.{◌≡◌, ◌≢◌, ℕ, zero, suc, ◌<◌, true, false, List, [], ◌∷◌, length, get_or, set, refl, ap, sym, ◌∙◌, subst, arith, inl, inr}
+use Rattle.std.proofs.Common.{◌≡◌, ◌≢◌, ℕ, zero, suc, ◌<◌, true, false, List, [], ◌∷◌, length, get_or, set, refl, ap}
+use Rattle.std.proofs.Common.{sym, ◌∙◌, subst, arith, inl, inr}
 use Rattle.std.specs.Prelude.{◌⊎◌}
 use Rattle.std.specs.List.{All, AllByRecursion, swap}
 use Rattle.std.specs.List.Sorted.{IsPermutation}
@@ -66,7 +67,7 @@ same_or_not a b = by (eqb_tells a.replica b.replica) (eqb_tells a.number b.numbe
     by : (((eqb a.replica b.replica ≡ true) × (a.replica ≡ b.replica)) ⊎
         ((eqb a.replica b.replica ≡ false) × (a.replica ≢ b.replica)))
         → (((eqb a.number b.number ≡ true) × (a.number ≡ b.number)) ⊎
-            ((eqb a.number b.number ≡ false) × (a.number ≢ b.number)))
+        ((eqb a.number b.number ≡ false) × (a.number ≢ b.number)))
         → (a ≡ b) ⊎ (a ≢ b)
     by (inl p) (inl q) = inl (λ i. record { replica = p.1 i; number = q.1 i })
     by (inr p) _ = inr (λ e. p.1 (ap (λ (w : UpdateId). w.replica) e))
