@@ -60,7 +60,7 @@ keeps_length s r (Some x) = length-set s r (Some x)
 -- what stands at a place after a put
 at_put : (s : List (Option ℕ)) (r place : ℕ) (o : Option ℕ) → place < length s
     → get_or (with_put s r o) place None
-        ≡ last_or (get_or s place None) (cons_option (if r == place then o else None) [])
+    ≡ last_or (get_or s place None) (cons_option (if r == place then o else None) [])
 at_put s r place o lt = by o (cases_eq r place)
   where
     by : (o : Option ℕ) → ((r ≡ place) ⊎ (r ≢ place))
@@ -118,7 +118,7 @@ module _ (place_of : UpdateId → ℕ) where
           ∙ ap (λ b. cond b (last_or None (puts place us)) None) (sym (lt-ltb place 8 lt))
       by (inr past) =
           get_or_past (fold after (replicate 8 None) us) place None
-              (omega (arith, past, keeps_length_all (replicate 8 None) us))
+          (omega (arith, past, keeps_length_all (replicate 8 None) us))
           ∙ ap (λ b. cond b (last_or None (puts place us)) None) (sym (le-ltb place 8 past))
 
   -- lawful, where updates of different replicas have different places
