@@ -1,0 +1,9 @@
+//! Types of objects as a program of one's own would define them, and callers that keep them on a
+//! shelf: each is proved from the contracts of what it calls. The pages CALLING.md quote them word
+//! for word.
+#![tactic(auto)]
+
+pub mod notes;
+pub mod shelves;
+pub mod statuses;
+pub mod tallies;
