@@ -1,5 +1,7 @@
-//! Callers of the crates for types of one's own, as a program would have them: each is proved from
-//! the contracts of what it calls. The pages CALLING.md quote them word for word.
+//! Types of objects as a program of one's own would define them, and callers that keep them on a
+//! shelf: each is proved from the contracts of what it calls. The pages CALLING.md quote them word
+//! for word.
 #![tactic(auto)]
 
 pub mod own;
+pub mod statuses;
