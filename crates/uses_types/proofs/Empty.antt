@@ -1,5 +1,5 @@
 -- Whether no replica has put anything.
-use Rattle.std.proofs.Common.{◌≡◌, ℕ, suc, zero, true, false, nat_eq, List, [], ◌∷◌, length, get_or, drop, replicate, Option, Some, None, refl, ap, sym, ◌∙◌, arith, true≢false}
+use Rattle.std.proofs.Common.{◌≡◌, ℕ, suc, zero, nat_eq, List, [], ◌∷◌, length, get_or, drop, replicate, Option, Some, None, refl, ap, sym, arith, true≢false}
 use Rattle.std.specs.Bool.{Decides}
 use Rattle.std.specs.Option.{is_some, option_eq}
 use Rattle.std.specs.Cmp.Lexicographic.{pointwise}

@@ -3,5 +3,6 @@
 //! for word.
 #![tactic(auto)]
 
+pub mod flags;
 pub mod own;
 pub mod statuses;

@@ -21,8 +21,11 @@ impl Absorbs for Status {
     ghost use Rattle.uses_types.specs.Statuses.{status_meaning, status_lawful};
 
     type Kind = ();
+
     type State = [Option<u64>; 8];
+
     type Query = u8;
+
     type Answer = Option<u64>;
 
     ghost state = { λ status. status.last };

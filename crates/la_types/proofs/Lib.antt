@@ -1,0 +1,2 @@
+mod CountBytes
+mod FlagBytes

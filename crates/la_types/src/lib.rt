@@ -1,0 +1,11 @@
+//! Replicated types to take, each an [`Absorbs`](la_shelf::Absorbs) of an open shelf, with its
+//! operations as bytes of one's own.
+//!
+//! `specs/` has each type's meaning: what a question is answered, said of the list of updates.
+#![tactic(auto)]
+
+mod bytes;
+mod flag;
+pub mod laws;
+
+pub use flag::{Flag, FlagOp, FlagState};
