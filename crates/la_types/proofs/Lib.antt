@@ -1,2 +1,3 @@
 mod CountBytes
 mod FlagBytes
+mod WriteBytes

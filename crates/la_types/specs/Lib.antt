@@ -5,3 +5,8 @@ pub mod SeenCounts
 pub mod Flags
 pub mod FlagMeans
 pub mod FlagLaws
+pub mod Writes
+pub mod Refusals
+pub mod Registers
+pub mod WriteLaws
+pub mod RegisterLaws

@@ -61,3 +61,11 @@ fn count_at(bytes: &[u8], from: usize) -> u32
         bytes[from + 3],
     ])
 }
+
+// The bytes from a place on.
+pub fn behind(bytes: &[u8], from: usize) -> &[u8]
+    requires { from ≤ length bytes.now }
+    ensures { result.now ≡ drop from bytes.now }
+{
+    &bytes[from..]
+}

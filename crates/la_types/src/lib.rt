@@ -5,7 +5,13 @@
 #![tactic(auto)]
 
 mod bytes;
+mod data;
 mod flag;
 pub mod laws;
+mod register;
+mod write;
 
+pub use data::Bytes;
 pub use flag::{Flag, FlagOp, FlagState};
+pub use register::Register;
+pub use write::{REGISTER_BYTES, Write, write_op};

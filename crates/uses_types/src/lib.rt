@@ -5,4 +5,5 @@
 
 pub mod flags;
 pub mod own;
+pub mod registers;
 pub mod statuses;
