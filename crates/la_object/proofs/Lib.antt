@@ -4,10 +4,7 @@ pub mod Steps
 pub mod Presence
 pub mod LivePuts
 pub mod Tags
-pub mod Orders
 pub mod Replies
 pub mod OwnOperations
-pub mod Views
-pub mod NewUpdates
 pub mod Runs
 pub mod FreshShelves

@@ -22,11 +22,12 @@ use Rattle.la_object.specs.IdOrder.{id_cmp}
 use Rattle.la_object.specs.Counter.{counts, increment, decrement, total, reaches}
 use Rattle.la_object.specs.MaxRegister.{raises, raised}
 use Rattle.la_object.specs.OrSet.{puts_or_removes, element, named, is_removed, live, present, element_set, is_element, live_tags, with_element, with_ids}
-use Rattle.la_object.specs.Objects.{value, tags_by, is_of_kind, is_of_some_kind, kind_of, start, after, steps}
-use Rattle.la_object.specs.Shelves.{ShelfState, kind_at, updates_at, operations_at, state_by, answer_at, tags_at, state_at}
+use Rattle.la_shelf.specs.Shelves.{state_by}
+use Rattle.la_object.specs.Objects.{meaning, value, tags_by, is_of_kind, is_of_some_kind, kind_of, start, after, steps}
+use Rattle.la_object.specs.Shelves.{ShelfState, kind_at, updates_at, operations_at, answer_at, tags_at, state_at}
 use Rattle.la_object.proofs.lemmas.IdMaps.{with_ids-nil}
 use Rattle.la_object.proofs.Replies.{kind_of-after}
-use Rattle.la_object.proofs.lemmas.Rows.{kind_of-start}
+use Rattle.la_object.proofs.lemmas.Lawful.{kind_of-start}
 
 -- ## What a kind takes from the operations of others
 
@@ -82,16 +83,20 @@ module _ (keeps : Update → Bool) where
       → sum_by f (filter keeps us) ≡ sum_by f us
   sum-kept f none [] = refl
   sum-kept f none (u ∷ us) = elim (cases_Bool (keeps u)) [
-    | inl is ↦ ap (λ b. sum_by f (cond b (u ∷ filter keeps us) (filter keeps us))) is ∙ omega (arith, sum_by-cons f u (filter keeps us), sum_by-cons f u us, sum-kept f none us)
-    | inr not ↦ ap (λ b. sum_by f (cond b (u ∷ filter keeps us) (filter keeps us))) not ∙ omega (arith, sum_by-cons f u us, none u not, sum-kept f none us)
+    | inl is ↦ ap (λ b. sum_by f (cond b (u ∷ filter keeps us) (filter keeps us))) is
+        ∙ omega (arith, sum_by-cons f u (filter keeps us), sum_by-cons f u us, sum-kept f none us)
+    | inr not ↦ ap (λ b. sum_by f (cond b (u ∷ filter keeps us) (filter keeps us))) not
+        ∙ omega (arith, sum_by-cons f u us, none u not, sum-kept f none us)
   ]
 
   largest-kept : ((u : Update) → keeps u ≡ false → raised u.op ≡ 0) → (a : ℕ) (us : List Update)
       → fold (λ m u. max m (raised u.op)) a (filter keeps us) ≡ fold (λ m u. max m (raised u.op)) a us
   largest-kept none a [] = refl
   largest-kept none a (u ∷ us) = elim (cases_Bool (keeps u)) [
-    | inl is ↦ ap (λ b. fold (λ m (v : Update). max m (raised v.op)) a (cond b (u ∷ filter keeps us) (filter keeps us))) is ∙ largest-kept none (max a (raised u.op)) us
-    | inr not ↦ ap (λ b. fold (λ m (v : Update). max m (raised v.op)) a (cond b (u ∷ filter keeps us) (filter keeps us))) not ∙ largest-kept none a us
+    | inl is ↦ ap (λ b. fold (λ m (v : Update). max m (raised v.op)) a (cond b (u ∷ filter keeps us) (filter keeps us)))
+        is ∙ largest-kept none (max a (raised u.op)) us
+    | inr not ↦ ap (λ b. fold (λ m (v : Update). max m (raised v.op)) a
+        (cond b (u ∷ filter keeps us) (filter keeps us))) not ∙ largest-kept none a us
         ∙ ap (λ n. fold (λ m (v : Update). max m (raised v.op)) n us) {x = a} {y = max a (raised u.op)}
         (omega (arith, none u not))
   ]
@@ -100,7 +105,8 @@ module _ (keeps : Update → Bool) where
       → is_removed (filter keeps us) id ≡ is_removed us id
   removed-kept none id [] = refl
   removed-kept none id (u ∷ us) = elim (cases_Bool (keeps u)) [
-    | inl is ↦ ap (λ b. is_removed (cond b (u ∷ filter keeps us) (filter keeps us)) id) is ∙ ap (λ b. list_any (eq_by_cmp id_cmp id) (named u.op) || b) (removed-kept none id us)
+    | inl is ↦ ap (λ b. is_removed (cond b (u ∷ filter keeps us) (filter keeps us)) id) is
+        ∙ ap (λ b. list_any (eq_by_cmp id_cmp id) (named u.op) || b) (removed-kept none id us)
     | inr not ↦ ap (λ b. is_removed (cond b (u ∷ filter keeps us) (filter keeps us)) id) not ∙ removed-kept none id us
         ∙ ap (λ ids. list_any (eq_by_cmp id_cmp id) ids || is_removed us id) (sym (none u not))
   ]
@@ -109,7 +115,8 @@ module _ (keeps : Update → Bool) where
       → filter_map f (filter keeps us) ≡ filter_map f us
   read-kept f none [] = refl
   read-kept f none (u ∷ us) = elim (cases_Bool (keeps u)) [
-    | inl is ↦ ap (λ b. filter_map f (cond b (u ∷ filter keeps us) (filter keeps us))) is ∙ ap (cons_option (f u)) (read-kept f none us)
+    | inl is ↦ ap (λ b. filter_map f (cond b (u ∷ filter keeps us) (filter keeps us))) is
+        ∙ ap (cons_option (f u)) (read-kept f none us)
     | inr not ↦ ap (λ b. filter_map f (cond b (u ∷ filter keeps us) (filter keeps us))) not ∙ read-kept f none us
         ∙ ap (λ o. cons_option o (filter_map f us)) (sym (none u not))
   ]
@@ -118,7 +125,8 @@ module _ (keeps : Update → Bool) where
       → filter p (filter keeps us) ≡ filter p us
   ids-kept p none [] = refl
   ids-kept p none (u ∷ us) = elim (cases_Bool (keeps u)) [
-    | inl is ↦ ap (λ b. filter p (cond b (u ∷ filter keeps us) (filter keeps us))) is ∙ ap (λ vs. cond (p u) (u ∷ vs) vs) (ids-kept p none us)
+    | inl is ↦ ap (λ b. filter p (cond b (u ∷ filter keeps us) (filter keeps us))) is
+        ∙ ap (λ vs. cond (p u) (u ∷ vs) vs) (ids-kept p none us)
     | inr not ↦ ap (λ b. filter p (cond b (u ∷ filter keeps us) (filter keeps us))) not ∙ ids-kept p none us
         ∙ ap (λ b. cond b (u ∷ filter p us) (filter p us)) (sym (none u not))
   ]
@@ -225,8 +233,10 @@ pub steps-kept : (keeps : Update → Bool) (s : State) → LeavesOutOthers (kind
     → steps s (filter keeps us) ≡ steps s us
 steps-kept keeps s others [] = refl
 steps-kept keeps s others (u ∷ us) = elim (cases_Bool (keeps u)) [
-  | inl is ↦ ap (λ b. steps s (cond b (u ∷ filter keeps us) (filter keeps us))) is ∙ steps-kept keeps (after s u) (subst (λ kind. LeavesOutOthers kind keeps) (sym (kind_of-after s u)) others) us
-  | inr not ↦ ap (λ b. steps s (cond b (u ∷ filter keeps us) (filter keeps us))) not ∙ steps-kept keeps s others us ∙ ap (λ t. steps t us) (sym (changes_nothing s u (others u not)))
+  | inl is ↦ ap (λ b. steps s (cond b (u ∷ filter keeps us) (filter keeps us))) is
+      ∙ steps-kept keeps (after s u) (subst (λ kind. LeavesOutOthers kind keeps) (sym (kind_of-after s u)) others) us
+  | inr not ↦ ap (λ b. steps s (cond b (u ∷ filter keeps us) (filter keeps us))) not ∙ steps-kept keeps s others us
+      ∙ ap (λ t. steps t us) (sym (changes_nothing s u (others u not)))
 ]
 
 -- ## A shelf's object, by the operations of its kind on it
@@ -245,7 +255,7 @@ module _ (s : ShelfState) (number : ℕ) (kind : Kind) (here : kind_at s.objects
 
   pub state-own : state_at s number ≡ Some (steps (start kind) (operations_at s.view number kind))
   state-own =
-      ap (option_map (state_by s.view number)) here
+      ap (option_map (state_by meaning s.view number)) here
       ∙ ap Some
       (sym
       (steps-kept (λ u. is_of_kind kind u.op) (start kind)

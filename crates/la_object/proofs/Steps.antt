@@ -1,5 +1,5 @@
--- Two steps with different ids commute, so a step may be taken last.
-use Rattle.std.proofs.Common.{◌≡◌, ◌≢◌, ℕ, ◌+◌, Bool, true, false, ◌||◌, cond, max, List, [], ◌∷◌, ◌++◌, filter, Option, Some, None, is_some, refl, ap, sym, ◌∙◌, arith}
+-- Two steps with different ids commute.
+use Rattle.std.proofs.Common.{◌≡◌, ◌≢◌, ℕ, ◌+◌, Bool, true, false, ◌||◌, cond, max, List, [], ◌∷◌, Option, Some, None, is_some, refl, ap, sym, ◌∙◌, arith}
 use Rattle.std.specs.Ordering.{eq_by_cmp}
 use Rattle.std.specs.Cmp.{Equal-is}
 use Rattle.std.specs.FinMap as map
@@ -12,7 +12,7 @@ use Rattle.la_object.specs.declared.state.State.TheVariants.{Counter, Max, Set}
 use Rattle.la_object.specs.Counter.{increment, decrement}
 use Rattle.la_object.specs.MaxRegister.{raised}
 use Rattle.la_object.specs.OrSet.{element, named, with_element, with_ids}
-use Rattle.la_object.specs.Objects.{after, steps}
+use Rattle.la_object.specs.Objects.{after}
 use Rattle.la_object.proofs.lemmas.IdOrder.{id_cmp_total, id_cmp-IsAntisymmetric}
 
 pub or_else : Option ℕ → Option ℕ → Option ℕ
@@ -88,7 +88,9 @@ with_ids-swap gone xs ys = set.same_set id_cmp_total id_cmp-IsAntisymmetric _ _ 
     (set.contains-union id_cmp_total gone (set.from_list xs) q)
     ∙ or_last_two (set.contains gone q) (set.contains {R = id_cmp} (set.from_list {R = id_cmp} xs) q)
     (set.contains {R = id_cmp} (set.from_list {R = id_cmp} ys) q)
-    ∙ sym (set.contains-union id_cmp_total _ _ q ∙ ap (λ b. b || set.contains {R = id_cmp} (set.from_list {R = id_cmp} xs) q) (set.contains-union id_cmp_total gone (set.from_list ys) q)))
+    ∙ sym (set.contains-union id_cmp_total _ _ q
+    ∙ ap (λ b. b || set.contains {R = id_cmp} (set.from_list {R = id_cmp} xs) q)
+    (set.contains-union id_cmp_total gone (set.from_list ys) q)))
 
 -- two steps with different ids commute
 pub after-swap : (s : State) (u v : Update) → u.id ≢ v.id → after (after s u) v ≡ after (after s v) u
@@ -111,20 +113,3 @@ after-swap (Set adds gone) u v ne i =
 abbrev pub AllOther : Update → List Update → Type 0
 AllOther u [] = Unit {0}
 AllOther u (v ∷ vs) = (u.id ≢ v.id) × AllOther u vs
-
--- a step may be taken last
-pub steps-last : (s : State) (u : Update) (vs : List Update) → AllOther u vs
-    → steps (after s u) vs ≡ after (steps s vs) u
-steps-last s u [] other = refl
-steps-last s u (v ∷ vs) other = ap (λ t. steps t vs) (after-swap s u v other.0) ∙ steps-last (after s v) u vs other.1
-
-pub steps-insert : (s : State) (us : List Update) (u : Update) (vs : List Update) → AllOther u vs
-    → steps s (us ++ u ∷ vs) ≡ after (steps s (us ++ vs)) u
-steps-insert s [] u vs other = steps-last s u vs other
-steps-insert s (x ∷ us) u vs other = steps-insert (after s x) us u vs other
-
-pub AllOther-filter : (u : Update) (p : Update → Bool) (vs : List Update) → AllOther u vs → AllOther u (filter p vs)
-AllOther-filter u p [] other = tt
-AllOther-filter u p (v ∷ vs) other =
-    elim (p v) as (λ b. AllOther u (cond b (v ∷ filter p vs) (filter p vs)))
-    [ true ↦ (other.0, AllOther-filter u p vs other.1) | false ↦ AllOther-filter u p vs other.1 ]

@@ -1,5 +1,5 @@
 -- The live tags of an element, where the updates come in the order of their ids: what a state holds of them, in that order.
-use Rattle.std.proofs.Common.{◌≡◌, ◌≢◌, ℕ, ◌==◌, Bool, true, false, not, ◌&&◌, ◌||◌, cond, List, [], ◌∷◌, ◌++◌, map as list_map, filter, Option, Some, None, is_some, refl, ap, sym, ◌∙◌, subst, append_assoc, append-nil}
+use Rattle.std.proofs.Common.{◌≡◌, ◌≢◌, ℕ, suc, ◌<◌, ◌==◌, Bool, true, false, not, ◌&&◌, ◌||◌, cond, List, [], ◌∷◌, ◌++◌, map as list_map, filter, Option, Some, None, is_some, refl, ap, sym, ◌∙◌, subst, append_assoc, append-nil, length, get_or, arith, inl, inr}
 use Rattle.std.specs.List.{filter_map, cons_option}
 use Rattle.std.specs.Option.{option_map}
 use Rattle.std.specs.Ordering.{is_eq}
@@ -10,6 +10,9 @@ use Rattle.std.specs.FinMap.Entries.{by_order}
 use Rattle.std.specs.FinSet as set
 use Rattle.la_set.specs.declared.update.UpdateId.{UpdateId}
 use Rattle.la_set.specs.declared.update.Update.{Update}
+use Rattle.la_set.specs.Ids.{IsBelow}
+use Rattle.la_set.proofs.lemmas.IdOrder.{id_cases, below_trans, below_irreflexive}
+use Rattle.la_shelf.specs.Meanings.{AreAscending}
 use Rattle.la_object.specs.IdOrder.{id_cmp, Elements}
 use Rattle.la_object.specs.OrSet.{element, is_removed, is_element, live_tags, with_element, held_tags}
 use Rattle.la_object.proofs.lemmas.IdOrder.{id_cmp_total}
@@ -41,11 +44,30 @@ pub ascending-distinct : (us : List Update) → IsAscendingList us → IsDistinc
 ascending-distinct [] ascending = tt
 ascending-distinct (u ∷ us) ascending = (AllAbove-other u us ascending.0, ascending-distinct us ascending.1)
 
-pub AllAbove-filter : (u : Update) (p : Update → Bool) (vs : List Update) → AllAbove u vs → AllAbove u (filter p vs)
-AllAbove-filter u p [] above = tt
-AllAbove-filter u p (v ∷ vs) above =
-    elim (p v) as (λ b. AllAbove u (cond b (v ∷ filter p vs) (filter p vs)))
-    [ true ↦ (above.0, AllAbove-filter u p vs above.1) | false ↦ AllAbove-filter u p vs above.1 ]
+below-greater : (x y : UpdateId) → IsBelow x y → id_cmp y x ≡ Greater
+below-greater x y below = elim (id_cases y x) [
+  | inl less ↦ absurd (below_irreflexive x (below_trans x y x below less.0))
+  | inr more ↦ elim more [
+    | inl same ↦ absurd (below_irreflexive x (subst (λ z. IsBelow x z) same.0 below))
+    | inr greater ↦ greater.1
+  ]
+]
+
+above-each : (u : Update) (vs : List Update) → ((j : ℕ) (d : Update) → j < length vs → IsBelow u.id (get_or vs j d).id)
+    → AllAbove u vs
+above-each u [] below = tt
+above-each u (v ∷ vs) below = (
+  below-greater u.id v.id (below 0 u (omega arith)),
+  above-each u vs (λ j d within. below (suc j) d (omega arith)),
+)
+
+-- each pair of updates in the order of their ids, as a step along the list has it
+pub ascending-list : (us : List Update) → AreAscending us → IsAscendingList us
+ascending-list [] up = tt
+ascending-list (u ∷ us) up = (
+  above-each u us (λ j d within. up 0 (suc j) d (omega arith) (omega arith)),
+  ascending-list us (λ i j d lt within. up (suc i) (suc j) d (omega arith) (omega arith)),
+)
 
 -- ## What was put, in that order
 
@@ -157,7 +179,11 @@ module _ (gone : UpdateId → Bool) (x : ℕ) where
           ≡ list_map (λ (v : Update). v.id)
           (cond (is_element x (cond b None (Some y))) (u ∷ filter is_live us) (filter is_live us))) [
             | true ↦ rest
-            | false ↦ elim (y == x) as (λ c. list_map (λ (e : Entry). e.0) (cond c ((u.id, y) ∷ filter is_left (filter_map put_by us)) (filter is_left (filter_map put_by us))) ≡ list_map (λ (v : Update). v.id) (cond c (u ∷ filter is_live us) (filter is_live us))) [ true ↦ ap (λ ids. u.id ∷ ids) rest | false ↦ rest ]
+            | false ↦ elim (y == x)
+                as (λ c. list_map (λ (e : Entry). e.0)
+                (cond c ((u.id, y) ∷ filter is_left (filter_map put_by us)) (filter is_left (filter_map put_by us)))
+                ≡ list_map (λ (v : Update). v.id) (cond c (u ∷ filter is_live us) (filter is_live us)))
+                [ true ↦ ap (λ ids. u.id ∷ ids) rest | false ↦ rest ]
           ]
 
 -- the tags that the steps hold are those that are live

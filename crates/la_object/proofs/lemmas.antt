@@ -1,4 +1,5 @@
 pub mod IdOrder
 pub mod Sorted
 pub mod IdMaps
+pub mod Lawful
 pub mod Rows

@@ -1,12 +1,14 @@
 -- Objects of all kinds: what an object answers by its updates, and the steps of a state by which it
 -- gets there.
-use Rattle.std.specs.Prelude.{◌≡◌, ℕ, ◌==◌, Bool, true, false, List, [], fold, filter}
+use Rattle.std.specs.Prelude.{◌≡◌, ℕ, Bool, true, false, not, List, [], fold, filter}
 use Rattle.std.specs.FinMap as map
 use Rattle.std.specs.FinSet as set
 use Rattle.la_set.specs.declared.update.UpdateId.{UpdateId}
 use Rattle.la_set.specs.declared.update.Op.{Op}
 use Rattle.la_set.specs.declared.update.Op.TheVariants.{Mark, Vote}
 use Rattle.la_set.specs.declared.update.Update.{Update}
+use Rattle.la_shelf.specs.Meanings.{Meaning}
+pub use Rattle.la_shelf.specs.Shelves.{of_object}
 use Rattle.la_object.specs.declared.kind.Kind.{Kind}
 use Rattle.la_object.specs.declared.kind.Kind.TheVariants.{Counter as CounterKind, MaxRegister, OrSet}
 use Rattle.la_object.specs.declared.query.Query.{Query}
@@ -35,10 +37,6 @@ is_of_some_kind _ = true
 -- the updates whose operations are some kind's
 abbrev pub without_marks_and_votes : List Update → List Update
 without_marks_and_votes us = filter (λ u. is_of_some_kind u.op) us
-
--- the updates of the object with this number
-abbrev pub of_object : ℕ → List Update → List Update
-of_object number us = filter (λ u. u.object == number) us
 
 -- what an object of a kind with these updates answers
 abbrev pub value : Kind → List Update → Query → Answer
@@ -102,3 +100,15 @@ abbrev pub HasRoom : State → Type 0
 HasRoom (Counter up down) = CounterHasRoom up down
 HasRoom (Max most) = Unit {0}
 HasRoom (Set adds gone) = Unit {0}
+
+-- ## Objects of all kinds as a shelf of objects of one's own takes them
+
+abbrev pub meaning : Meaning Kind State Query Answer
+meaning = record {
+  start = start;
+  kind_of = kind_of;
+  after = after;
+  reply = reply;
+  value = value;
+  in_place = λ kind query. not (answers_a_list kind query);
+}

@@ -1,10 +1,10 @@
 -- When each call is refused, and how: a word for each call, by cases over the error.
-use Rattle.std.specs.Prelude.{◌≡◌, ℕ, ◌<◌, ◌≤◌, List, length, Option, IsSome, IsSomeAnd, None}
+use Rattle.std.specs.Prelude.{◌≡◌, ◌<◌, ◌≤◌, List, length, Option, IsSome, IsSomeAnd, None}
 use Rattle.la_set.specs.declared.tags.TheConstants.{MAX_TAGS, INLINE_TAGS}
 use Rattle.la_set.specs.declared.update.UpdateId.{UpdateId}
 use Rattle.la_set.specs.Histories.{Histories}
 use Rattle.la_set.specs.Inclusion.{IsSubset}
-use Rattle.la_set.specs.Difference.{beyond}
+use Rattle.la_shelf.specs.Refusals.{HasAbsorbed}
 use Rattle.la_object.specs.declared.kind.Kind.{Kind}
 use Rattle.la_object.specs.declared.state.State.{State}
 use Rattle.la_object.specs.declared.error.ObserveError.{ObserveError}
@@ -14,7 +14,7 @@ use Rattle.la_object.specs.declared.error.ShelfError.TheVariants.{Taken, NotFres
 use Rattle.la_object.specs.declared.error.AbsorbError.{AbsorbError}
 use Rattle.la_object.specs.declared.error.AbsorbError.TheVariants.{Smaller, Memory as AbsorbMemory}
 use Rattle.la_object.specs.Objects.{IsFresh}
-use Rattle.la_object.specs.Shelves.{ShelfState, after_first}
+use Rattle.la_object.specs.Shelves.{ShelfState}
 
 -- what an object observes: more tags than a Remove may name, and else memory may run out where they
 -- are more than take none
@@ -48,13 +48,6 @@ IsTagsRefusal tags Memory =
     IsSomeAnd tags (λ ids. (INLINE_TAGS < length ids) × (length ids ≤ MAX_TAGS))
 IsTagsRefusal tags Taken = ⊥
 IsTagsRefusal tags NotFresh = ⊥
-
--- the new view is the old one with the first k of the updates that the set has beyond it, and not
--- with all of them
-abbrev pub HasAbsorbed : ShelfState → Histories → ShelfState → ℕ → Type 0
-HasAbsorbed old set new k =
-    (k < length (beyond set old.view))
-    × (new ≡ record old { view = after_first old.view k (beyond set old.view) })
 
 -- an absorption, and what it leaves: a set that does not contain the view, and then nothing has
 -- changed; and else memory may run out, and then the view is the old one with the first `done` of

@@ -6,9 +6,10 @@ ghost use Rattle.la_set.specs.Histories.{empty};
 ghost use Rattle.la_set.specs.Inclusion.{IsSubset};
 ghost use Rattle.la_set.specs.Join.{HasNoMore, IsCompatible};
 ghost use Rattle.la_set.specs.Difference.{beyond};
-ghost use Rattle.la_object.specs.Objects.{kind_of, answers_a_list, IsFresh};
+ghost use Rattle.la_shelf.specs.Shelves.{absorbed, all_absorbed};
+ghost use Rattle.la_object.specs.Objects.{kind_of, answers_a_list, meaning, IsFresh};
 ghost use Rattle.la_object.specs.Shelves.{kind_at, answer_at, tags_at, state_at, IsFirstMore};
-ghost use Rattle.la_object.specs.Shelves.{HasTaken, states, absorbed, all_absorbed, HaveRoom, IsSmall};
+ghost use Rattle.la_object.specs.Shelves.{HasTaken, states, HaveRoom, IsSmall};
 ghost use Rattle.la_object.specs.Refusals.{IsAddRefusal, IsAskRefusal, IsTagsRefusal};
 ghost use Rattle.la_object.specs.Refusals.{IsAbsorbRefusal};
 
@@ -37,13 +38,13 @@ pub struct Shelf<B: Replicated> {
 }
 
 impl<B: Replicated> Model for Shelf<B> {
-    ghost use Rattle.la_object.specs.Shelves.{ShelfState, states, kinds, IsShelf};
+    ghost use Rattle.la_object.specs.Shelves.{ShelfState, states, kinds, IsClosedShelf};
 
     ghost Value = { ShelfState };
 
     ghost view = { λ s. record { view = s.view; objects = kinds (states B.state s.objects) } };
 
-    ghost invariant = { λ s. IsShelf s.view (states B.state s.objects) };
+    ghost invariant = { λ s. IsClosedShelf s.view (states B.state s.objects) };
 }
 
 impl<B: Replicated> Shelf<B> {
@@ -326,8 +327,8 @@ fn tell_small(update: &Update)
 // first refusal.
 fn absorb_all<B: Replicated>(objects: &mut IndexMap<u16, B>, run: &[&Update]) -> usize
     requires { (k : ℕ) → All IsSmall (take k (map (λ update. update.now) run.now)) → HaveRoom
-        (all_absorbed (states B.state objects.old) (take k (map (λ update. update.now) run.now))) }
-    ensures some { states B.state objects.new ≡ all_absorbed (states B.state objects.old)
+        (all_absorbed meaning (states B.state objects.old) (take k (map (λ update. update.now) run.now))) }
+    ensures some { states B.state objects.new ≡ all_absorbed meaning (states B.state objects.old)
         (take result (map (λ update. update.now) run.now)) }
     ensures small { All IsSmall (take result (map (λ update. update.now) run.now)) }
     ensures few { result ≤ length run.now }
@@ -351,7 +352,7 @@ fn absorb_one<B: Replicated>(
 ) -> Result<(), AllocError>
     requires { HaveRoom (states B.state objects.old) }
     ensures ok { OnOk result
-        (states B.state objects.new ≡ absorbed (states B.state objects.old) update.now) }
+        (states B.state objects.new ≡ absorbed meaning (states B.state objects.old) update.now) }
     ensures err { OnErr result (states B.state objects.new ≡ states B.state objects.old) }
 {
     let slot = update.object as usize % PLACES;

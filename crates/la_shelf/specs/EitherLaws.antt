@@ -4,7 +4,8 @@ use Rattle.la_set.specs.declared.update.Update.{Update}
 use Rattle.la_shelf.specs.declared.either.Either.{Either}
 use Rattle.la_shelf.specs.declared.either.Either.TheVariants.{First, Second}
 use Rattle.la_shelf.specs.Meanings.{Meaning, IsLawful, AreAscending}
-use Rattle.la_shelf.specs.Eithers.{either_start, either_kind_of, either_after, either_reply, either_value, either_meaning}
+use Rattle.la_shelf.specs.Eithers.{either_start, either_kind_of, either_after, either_reply, either_value}
+use Rattle.la_shelf.specs.Eithers.{either_meaning}
 
 module _ {K S Q A L T R B : Type 0} (m : Meaning K S Q A) (n : Meaning L T R B) where
   abbrev start : Either K L → Either S T
@@ -37,11 +38,16 @@ module _ {K S Q A L T R B : Type 0} (m : Meaning K S Q A) (n : Meaning L T R B) 
     starts (First k) = ap First (one.starts k)
     starts (Second l) = ap Second (two.starts l)
 
-    means : (k : Either K L) (us : List Update) (q : Either Q R) → AreAscending us → either_reply m n (fold after (start k) us) q ≡ either_value m n k us q
-    means (First k) us (First q) order = ap (λ s. either_reply m n s (First q)) (steps-first (m.start k) us) ∙ ap (λ a. Some (First a)) (one.means k us q order)
+    means : (k : Either K L) (us : List Update) (q : Either Q R) → AreAscending us
+        → either_reply m n (fold after (start k) us) q ≡ either_value m n k us q
+    means (First k) us (First q) order =
+        ap (λ s. either_reply m n s (First q)) (steps-first (m.start k) us)
+        ∙ ap (λ a. Some (First a)) (one.means k us q order)
     means (First k) us (Second r) order = ap (λ s. either_reply m n s (Second r)) (steps-first (m.start k) us)
     means (Second l) us (First q) order = ap (λ s. either_reply m n s (First q)) (steps-second (n.start l) us)
-    means (Second l) us (Second r) order = ap (λ s. either_reply m n s (Second r)) (steps-second (n.start l) us) ∙ ap (λ a. Some (Second a)) (two.means l us r order)
+    means (Second l) us (Second r) order =
+        ap (λ s. either_reply m n s (Second r)) (steps-second (n.start l) us)
+        ∙ ap (λ a. Some (Second a)) (two.means l us r order)
 
     pub either_lawful : IsLawful (either_meaning m n)
     either_lawful = record { commutes = commutes; keeps = keeps; starts = starts; means = means }

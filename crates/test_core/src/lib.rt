@@ -20,3 +20,5 @@ mod proposer;
 mod replica;
 #[cfg(test)]
 mod set;
+#[cfg(test)]
+mod shelves;

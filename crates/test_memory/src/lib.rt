@@ -26,6 +26,8 @@ mod replicas;
 mod runners;
 #[cfg(test)]
 mod sets;
+#[cfg(test)]
+mod shelves;
 
 pub use counted::{Counted, are_alive, counting, make_counted};
 pub use given::{Came, Does, Row, delta_of, refused, second, set_of};

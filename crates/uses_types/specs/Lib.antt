@@ -1,2 +1,4 @@
 pub mod Prices
 pub mod Statuses
+pub mod Tallies
+pub mod Notes

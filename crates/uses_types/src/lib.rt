@@ -4,6 +4,9 @@
 #![tactic(auto)]
 
 pub mod flags;
+pub mod notes;
 pub mod own;
 pub mod registers;
+pub mod shelves;
 pub mod statuses;
+pub mod tallies;

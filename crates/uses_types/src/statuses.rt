@@ -1,4 +1,4 @@
-ghost use Rattle.std.specs.Prelude.{◌≡◌};
+ghost use Rattle.std.specs.Prelude.{◌≡◌, None, replicate};
 
 use la_set::{Op, REPLICAS, Update};
 use la_shelf::{Absorbs, Refusal};
@@ -12,12 +12,15 @@ pub struct Status {
 
 impl Status {
     /// A status where no replica has put anything. It takes no memory.
-    pub fn new() -> Status {
+    pub fn new() -> Status
+        ensures { result.last ≡ replicate 8 None }
+    {
         Status { last: [None; 8] }
     }
 }
 
 impl Absorbs for Status {
+    ghost use Rattle.std.proofs.Common.{rules};
     ghost use Rattle.uses_types.specs.Statuses.{status_meaning, status_lawful};
 
     type Kind = ();
@@ -30,7 +33,7 @@ impl Absorbs for Status {
 
     ghost state = { λ status. status.last };
 
-    ghost meaning = { status_meaning };
+    ghost meaning = { status_meaning (λ id. id.replica) };
 
     fn fresh(&self) -> bool {
         self.last == [None; 8]
@@ -56,5 +59,5 @@ impl Absorbs for Status {
         Ok(self.last)
     }
 
-    ghost lawful = { status_lawful };
+    ghost lawful = { status_lawful (λ id. id.replica) (λ a b apart. Prim.search rules) };
 }

@@ -4,15 +4,17 @@ use Rattle.la_set.specs.Histories.{Histories, updates}
 use Rattle.la_set.specs.Join.{HasNoMore}
 use Rattle.la_set.specs.Difference.{beyond, lacks}
 use Rattle.la_object.specs.Shelves.{ShelfState}
-use Rattle.la_object.proofs.NewUpdates.{length-filter-le, nothing_beyond, nothing_left, nothing_new}
-use Rattle.la_object.proofs.Runs.{more-HasTaken}
+use Rattle.la_shelf.proofs.lemmas.NewUpdates.{length-filter-le, nothing_beyond, nothing_left, nothing_new}
+use Rattle.la_shelf.proofs.lemmas.Runs.{more-HasTaken}
+use Rattle.la_object.specs.Objects.{meaning}
+use Rattle.la_object.proofs.lemmas.Lawful.{lawful}
 use Rattle.la_object.proofs.shelf.Shelf.absorb_new.Goals as goal
 
 pub overflow_add-done : goal.overflow_add-done
 overflow_add-done g c =
     let old = c.args.self.now in let set = c.args.set.now in
     let more =
-    more-HasTaken old c.loop-replica.self c.absorb_run.new.self set c.loop-replica.done c.in-Ok.many
+    more-HasTaken meaning lawful old c.loop-replica.self c.absorb_run.new.self set c.loop-replica.done c.in-Ok.many
     c.loop-replica.invariant c.in-Ok.ensures.ok in
     omega (
       arith,
@@ -24,14 +26,15 @@ overflow_add-done g c =
 
 pub loop-replica-preserved : goal.loop-replica-preserved
 loop-replica-preserved g c =
-    more-HasTaken c.args.self.now c.loop-replica.self c.absorb_run.new.self c.args.set.now c.loop-replica.done
+    more-HasTaken meaning lawful c.args.self.now c.loop-replica.self c.absorb_run.new.self c.args.set.now
+    c.loop-replica.done
     c.in-Ok.many c.loop-replica.invariant c.in-Ok.ensures.ok
 
 pub overflow_add-result : goal.overflow_add-result
 overflow_add-result g c =
     let old = c.args.self.now in let set = c.args.set.now in
     let more =
-    more-HasTaken old c.loop-replica.self c.absorb_run.new.self set c.loop-replica.done c.in-Err.many
+    more-HasTaken meaning lawful old c.loop-replica.self c.absorb_run.new.self set c.loop-replica.done c.in-Err.many
     c.loop-replica.invariant c.in-Err.ensures.err in
     omega (
       arith,
@@ -45,7 +48,8 @@ pub returns-in-Err-clause-error : goal.returns-in-Err-clause-error
 returns-in-Err-clause-error g c =
     let old = c.args.self.now in let set = c.args.set.now in let done = c.loop-replica.done in
     let more =
-    more-HasTaken old c.loop-replica.self c.absorb_run.new.self set done c.in-Err.many c.loop-replica.invariant
+    more-HasTaken meaning lawful old c.loop-replica.self c.absorb_run.new.self set done c.in-Err.many
+    c.loop-replica.invariant
     c.in-Err.ensures.err in (
       c.requires,
       (

@@ -4,15 +4,19 @@ use Rattle.la_set.specs.declared.update.Update.{Update}
 use Rattle.la_set.specs.Histories.{count, truncate, updates_of}
 use Rattle.la_set.specs.Inclusion.{IsSubset}
 use Rattle.la_object.specs.Shelves.{ShelfState, IsFirstMore}
+use Rattle.la_object.specs.Objects.{meaning}
+use Rattle.la_object.proofs.lemmas.Lawful.{lawful}
 use Rattle.la_object.proofs.lemmas.Rows.{rows}
-use Rattle.la_object.proofs.Runs.{run-length, run-count, run-HaveRoom, beyond-length, ends-IsShelf, ends-HasTaken}
+use Rattle.la_shelf.proofs.lemmas.Runs.{run-length, run-count, beyond-length, ends-HasTaken}
+use Rattle.la_object.proofs.Runs.{run-HaveRoom, ends-IsShelf}
 use Rattle.la_object.proofs.shelf.Shelf.absorb_run.Goals as goal
 
 pub returns-in_default-clause-fewer : goal.returns-in_default-clause-fewer
 returns-in_default-clause-fewer g c =
     omega (
       arith,
-      beyond-length c.args.self.now.view c.args.set.now c.requires.within c.args.replica c.requires.first,
+      beyond-length meaning lawful c.args.self.now.view c.args.set.now c.requires.within c.args.replica
+          c.requires.first,
       c.requires.first.more,
     )
 
@@ -20,7 +24,8 @@ pub returns-in_default-run-clause-fewer : goal.returns-in_default-run-clause-few
 returns-in_default-run-clause-fewer g c =
     omega (
       arith,
-      beyond-length c.args.self.now.view c.args.set.now c.requires.within c.args.replica c.requires.first,
+      beyond-length meaning lawful c.args.self.now.view c.args.set.now c.requires.within c.args.replica
+          c.requires.first,
       c.requires.first.more,
     )
 
@@ -49,7 +54,7 @@ overflow_cast-many g c =
     ∙ ap (λ n. take 1000 (drop n (updates_of set r))) c.count_of-from.ensures.count in
     let few : c.absorb_all-many.result ≤ length us =
     omega (arith, c.absorb_all-many.ensures.few, length-map c.as_slice-run.result.now (λ u. u.now)) in
-    omega (arith, few, run-length view set sub r first c.counts-limited.ensures.limit us run)
+    omega (arith, few, run-length meaning lawful view set sub r first c.counts-limited.ensures.limit us run)
 
 pub overflow_add-from : goal.overflow_add-from
 overflow_add-from g c =
@@ -67,7 +72,7 @@ overflow_add-from g c =
       arith,
       c.count_of-from.ensures.count,
       c.counts-limited.ensures.limit r,
-      run-count view set sub r first
+      run-count meaning lawful view set sub r first
           c.counts-limited.ensures.limit us run c.absorb_all-many.result few,
     )
 
@@ -119,10 +124,10 @@ returns-then-many-run-clause-err g c =
     ∙ ap (λ n. take 1000 (drop n (updates_of set r))) c.count_of-from.ensures.count in
     let few : c.absorb_all-many.result ≤ length us =
     omega (arith, c.absorb_all-many.ensures.few, length-map c.as_slice-run.result.now (λ u. u.now)) in
-    ends-HasTaken view set sub r first c.counts-limited.ensures.limit us run c.absorb_all-many.result few
+    ends-HasTaken meaning lawful view set sub r first c.counts-limited.ensures.limit us run c.absorb_all-many.result few
     g.B.Replicated.state c.self.inside.objects.entries c.absorb_all-many.new.objects.entries c.in-Ok.ready
     c.first.result
-    c.self.invariant c.absorb_all-many.ensures.some c.absorb_all-many.ensures.small c.in-Ok.ensures
+    c.self.invariant.objects c.absorb_all-many.ensures.some c.in-Ok.ensures
     (c.first.ensures ∙ ap (λ n. truncate c.in-Ok.ready r (n + c.absorb_all-many.result)) c.count_of-from.ensures.count)
     c.args.self.now c.self.view_is
 
@@ -138,10 +143,10 @@ returns-clause-ok g c =
     ∙ ap (λ n. take 1000 (drop n (updates_of set r))) c.count_of-from.ensures.count in
     let few : c.absorb_all-many.result ≤ length us =
     omega (arith, c.absorb_all-many.ensures.few, length-map c.as_slice-run.result.now (λ u. u.now)) in
-    ends-HasTaken view set sub r first c.counts-limited.ensures.limit us run c.absorb_all-many.result few
+    ends-HasTaken meaning lawful view set sub r first c.counts-limited.ensures.limit us run c.absorb_all-many.result few
     g.B.Replicated.state c.self.inside.objects.entries c.absorb_all-many.new.objects.entries c.in-Ok.ready
     c.first.result
-    c.self.invariant c.absorb_all-many.ensures.some c.absorb_all-many.ensures.small c.in-Ok.ensures
+    c.self.invariant.objects c.absorb_all-many.ensures.some c.in-Ok.ensures
     (c.first.ensures ∙ ap (λ n. truncate c.in-Ok.ready r (n + c.absorb_all-many.result)) c.count_of-from.ensures.count)
     c.args.self.now c.self.view_is
 
@@ -162,9 +167,9 @@ returns-then-many-run-clause-fewer g c =
       few,
       c.if-many-run.true,
       length-map c.as_slice-run.result.now (λ u. u.now),
-      run-length view set sub r
+      run-length meaning lawful view set sub r
           first c.counts-limited.ensures.limit us run,
-      beyond-length c.args.self.now.view set c.requires.within r
+      beyond-length meaning lawful c.args.self.now.view set c.requires.within r
           c.requires.first,
       ap (λ v. count v r) same,
     )
@@ -187,6 +192,6 @@ returns-clause-some g c =
       first.more,
       c.if-many-run.false,
       length-map c.as_slice-run.result.now (λ u. u.now),
-      run-length view
+      run-length meaning lawful view
           set sub r first c.counts-limited.ensures.limit us run,
     )

@@ -1,0 +1,5 @@
+pub mod NewUpdates
+pub mod Views
+pub mod Rows
+pub mod Runs
+pub mod Orders
