@@ -17,6 +17,8 @@ mod objects;
 #[cfg(test)]
 mod orsets;
 #[cfg(test)]
+mod owns;
+#[cfg(test)]
 mod proposers;
 #[cfg(test)]
 mod replicas;

@@ -1,3 +1,4 @@
+pub mod Prices
 pub mod Statuses
 pub mod Tallies
 pub mod Notes

@@ -3,7 +3,10 @@
 //! for word.
 #![tactic(auto)]
 
+pub mod flags;
 pub mod notes;
+pub mod own;
+pub mod registers;
 pub mod shelves;
 pub mod statuses;
 pub mod tallies;

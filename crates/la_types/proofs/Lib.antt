@@ -1,0 +1,3 @@
+mod CountBytes
+mod FlagBytes
+mod WriteBytes

@@ -1,0 +1,12 @@
+pub mod Seen
+pub mod Bytes
+pub mod Highest
+pub mod SeenCounts
+pub mod Flags
+pub mod FlagMeans
+pub mod FlagLaws
+pub mod Writes
+pub mod Refusals
+pub mod Registers
+pub mod WriteLaws
+pub mod RegisterLaws

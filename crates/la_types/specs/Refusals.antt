@@ -1,0 +1,9 @@
+-- When a call is refused, and how: by cases over the error.
+use Rattle.std.specs.Prelude.{ℕ, ◌<◌, ◌≤◌, List, length}
+use Rattle.la_own.specs.declared.error.OwnError.{OwnError}
+use Rattle.la_own.specs.declared.error.OwnError.TheVariants.{TooLong, Memory}
+use Rattle.la_types.specs.declared.write.TheConstants.{REGISTER_BYTES}
+
+abbrev pub IsWriteRefusal : List ℕ → OwnError → Type 0
+IsWriteRefusal value TooLong = REGISTER_BYTES < length value
+IsWriteRefusal value Memory = length value ≤ REGISTER_BYTES

@@ -1,0 +1,17 @@
+//! Replicated types to take, each an [`Absorbs`](la_shelf::Absorbs) of an open shelf, with its
+//! operations as bytes of one's own.
+//!
+//! `specs/` has each type's meaning: what a question is answered, said of the list of updates.
+#![tactic(auto)]
+
+mod bytes;
+mod data;
+mod flag;
+pub mod laws;
+mod register;
+mod write;
+
+pub use data::Bytes;
+pub use flag::{Flag, FlagOp, FlagState};
+pub use register::Register;
+pub use write::{REGISTER_BYTES, Write, write_op};
