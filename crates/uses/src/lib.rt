@@ -3,6 +3,7 @@
 #![tactic(auto)]
 
 pub mod acceptors;
+pub mod beside;
 pub mod commits;
 pub mod deltas;
 pub mod groups;
