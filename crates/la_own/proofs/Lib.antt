@@ -1,3 +1,4 @@
 mod Tags
-pub mod Words
-pub mod Reading
+mod Words
+mod Reading
+pub mod lemmas

@@ -44,7 +44,7 @@ use Rattle.la_wire.proofs.Joins.{words-back}
 use Rattle.la_wire.proofs.Ids.{tags-back}
 use Rattle.la_wire.proofs.Typed.{typed-op}
 use Rattle.la_own.specs.Own.{bytes_of as own_bytes_of}
-use Rattle.la_own.proofs.Reading.{bytes_of-made}
+use Rattle.la_own.proofs.lemmas.OwnTags.{bytes_of-made}
 use Rattle.la_wire.proofs.OwnTexts.{own-text-back}
 use Rattle.la_wire.proofs.FirstWords.{not_own}
 use Rattle.la_wire.proofs.UpdatesBack.{op-plain}

@@ -15,7 +15,7 @@ use Rattle.la_set.specs.declared.update.Op.TheVariants.{Remove}
 use Rattle.la_set.specs.Tags.{IsTags}
 use Rattle.la_own.specs.Own.{AreOwnBytes, own, bytes_of as own_bytes_of}
 use Rattle.la_own.specs.declared.own.TheConstants.{OWN_BYTES}
-use Rattle.la_own.proofs.Words.{own_tags-fit}
+use Rattle.la_own.proofs.lemmas.OwnTags.{own_tags-fit}
 use Rattle.la_wire.specs.declared.error.LineFault.TheVariants.{BadNumber}
 use Rattle.la_wire.specs.declared.updates.Verb.TheVariants as verb
 use Rattle.la_wire.specs.Updates.{verb_spelling, own_text, own_decoded, own_on, remove_words, op_words}
