@@ -1,5 +1,6 @@
 -- What is written into tags is read back.
-use Rattle.std.proofs.Common.{◌≡◌, ℕ, zero, suc, ◌+◌, ◌*◌, ◌/◌, ◌%◌, ◌<◌, ◌≤◌, List, [], ◌∷◌, length, drop, map, get_or, All, refl, ap, sym, ◌∙◌, subst, inl, inr, arith}
+use Rattle.std.proofs.Common.{◌≡◌, ℕ, zero, suc, ◌+◌, ◌*◌, ◌/◌, ◌%◌, ◌<◌, ◌≤◌, List, [], ◌∷◌, length, drop, map}
+use Rattle.std.proofs.Common.{get_or, All, refl, ap, sym, ◌∙◌, subst, inl, inr, arith}
 use Rattle.std.specs.Int.{w32, to_le_bytes}
 use Rattle.std.specs.List.{range_with_len}
 use Rattle.std.proofs.lemmas.Bool.{cases_lt}
@@ -8,7 +9,8 @@ use Rattle.std.proofs.lemmas.List.FromFn.{fill_by_all, get_or-map-range_with_len
 use Rattle.std.proofs.lemmas.Nat.{le_bytes_4}
 use Rattle.la_set.specs.declared.update.UpdateId.{UpdateId}
 use Rattle.la_set.specs.Ids.{IsBelow}
-use Rattle.la_own.specs.Own.{AreOwnBytes, word_count, word_at, length_tag, word_tag, own_tags, no_tag, word_of, byte_at, told_length, bytes_in}
+use Rattle.la_own.specs.Own.{AreOwnBytes, word_count, word_at, length_tag, word_tag, own_tags, no_tag, word_of}
+use Rattle.la_own.specs.Own.{byte_at, told_length, bytes_in}
 use Rattle.la_own.specs.declared.own.TheConstants.{OWN_BYTES}
 use Rattle.la_own.proofs.Tags.{own_tags-at}
 
@@ -24,7 +26,9 @@ module _ (bytes : List ℕ) (small : All (λ byte. byte < 256) bytes) where
 
   -- the four bytes of a word
   four : ℕ → List ℕ
-  four from = get_or (drop from bytes) 0 0 ∷ get_or (drop from bytes) 1 0 ∷ get_or (drop from bytes) 2 0 ∷ get_or (drop from bytes) 3 0 ∷ []
+  four from =
+      get_or (drop from bytes) 0 0 ∷ get_or (drop from bytes) 1 0 ∷ get_or (drop from bytes) 2 0 ∷ get_or
+      (drop from bytes) 3 0 ∷ []
 
   four_small : (from k : ℕ) → get_or (four from) k 0 < 256
   unfolding four
@@ -40,7 +44,8 @@ module _ (bytes : List ℕ) (small : All (λ byte. byte < 256) bytes) where
 
   word_small : (place : ℕ) → word_at bytes place < 4294967296
   word_small place =
-      omega (arith, byte_behind (4 * place) 0, byte_behind (4 * place) 1, byte_behind (4 * place) 2, byte_behind (4 * place) 3)
+      omega
+      (arith, byte_behind (4 * place) 0, byte_behind (4 * place) 1, byte_behind (4 * place) 2, byte_behind (4 * place) 3)
 
   four_at : (from k : ℕ) → k < 4 → get_or (four from) k 0 ≡ get_or (drop from bytes) k 0
   unfolding four
@@ -58,7 +63,8 @@ module _ (bytes : List ℕ) (own : AreOwnBytes bytes) where
   read_back : (k : ℕ) → k < length bytes → get_or bytes k 0 ≡ byte_at (own_tags bytes) k
   read_back k lt =
       let place = k / 4 in
-      let tag : get_or (own_tags bytes) (k / 4 + 1) no_tag ≡ word_tag bytes place = own_tags-at bytes place (omega arith) in
+      let tag : get_or (own_tags bytes) (k / 4 + 1) no_tag ≡ word_tag bytes place =
+          own_tags-at bytes place (omega arith) in
       let word : word_of (get_or (own_tags bytes) (k / 4 + 1) no_tag) ≡ word_at bytes place =
       ap word_of tag ∙ word_back place (word_at bytes place) (word_small bytes own.small place) in
       let at : 4 * place + k % 4 ≡ k = omega arith in
@@ -93,7 +99,8 @@ pub own_tags-fit : (bytes : List ℕ) → AreOwnBytes bytes
     → All (λ tag. (tag.replica < 256) × (1 ≤ tag.number) × (tag.number < 4294967296)) (own_tags bytes)
 own_tags-fit bytes own zero d lt = (omega arith, omega arith, omega (arith, own.few))
 own_tags-fit bytes own (suc k) d lt =
-    let within : k < word_count bytes = omega (arith, length-map-range_with_len (word_tag bytes) 0 (word_count bytes)) in
+    let within : k < word_count bytes =
+        omega (arith, length-map-range_with_len (word_tag bytes) 0 (word_count bytes)) in
     let small : word_at bytes k < 4294967296 = word_small bytes own.small k in
     let few : word_count bytes ≤ 62 = omega (arith, own.few) in
     let fits : (10 + 2 * k + word_at bytes k / 2147483648 < 256) × (1 ≤ word_at bytes k % 2147483648 + 1)
@@ -116,8 +123,10 @@ pub bytes_in-small : (tags : List UpdateId) → told_length tags ≤ OWN_BYTES �
 bytes_in-small tags few = record {
   few = omega (arith, length-map-range_with_len (byte_at tags) 0 (told_length tags));
   small = λ k d lt.
-      let within : k < told_length tags = omega (arith, length-map-range_with_len (byte_at tags) 0 (told_length tags)) in
-      omega (arith, byte_at-small tags k, get_or-map-range_with_len (byte_at tags) 0 (told_length tags) k k d within (omega arith));
+      let within : k < told_length tags =
+          omega (arith, length-map-range_with_len (byte_at tags) 0 (told_length tags)) in
+      omega
+      (arith, byte_at-small tags k, get_or-map-range_with_len (byte_at tags) 0 (told_length tags) k k d within (omega arith));
 }
 
 -- what fits a byte each

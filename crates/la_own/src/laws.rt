@@ -2,15 +2,15 @@
 ghost use Rattle.std.specs.Prelude.{◌≡◌, ℕ, ◌≤◌, List, All, Some};
 ghost use Rattle.la_set.specs.declared.update.Op.{Op};
 ghost use Rattle.la_set.specs.declared.set.TheConstants.{REPLICAS};
-ghost use Rattle.la_own.specs.Own.{AreOwnBytes, own, own_tags, bytes_of};
+ghost use Rattle.la_own.specs.Own.{AreOwnBytes, own, own_tags, own_bytes_of};
 
 /// What was put in comes out, and so different bytes are different operations. What comes out of
 /// an operation is what it was made of.
 pub fn bytes_come_back()
-    ensures read { (bytes : List ℕ) → AreOwnBytes bytes → bytes_of (own bytes) ≡ Some bytes }
+    ensures read { (bytes : List ℕ) → AreOwnBytes bytes → own_bytes_of (own bytes) ≡ Some bytes }
     ensures distinct { (one other : List ℕ) → AreOwnBytes one → AreOwnBytes other
         → own one ≡ own other → one ≡ other }
-    ensures made { (op : Op) (bytes : List ℕ) → bytes_of op ≡ Some bytes
+    ensures made { (op : Op) (bytes : List ℕ) → own_bytes_of op ≡ Some bytes
         → AreOwnBytes bytes × (op ≡ own bytes) }
 {}
 

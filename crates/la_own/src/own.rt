@@ -5,7 +5,7 @@ ghost use Rattle.std.specs.List.{range_with_len};
 ghost use Rattle.la_set.specs.declared.update.Op.TheVariants.{Remove};
 ghost use Rattle.la_set.specs.Ids.{IsBelow};
 ghost use Rattle.la_own.specs.Own.{AreOwnBytes, IsOwn, own, own_tags, word_count, word_at};
-ghost use Rattle.la_own.specs.Own.{length_tag, word_tag, word_of, byte_at, bytes_of, no_tag, told_length};
+ghost use Rattle.la_own.specs.Own.{length_tag, word_tag, word_of, byte_at, own_bytes_of, no_tag, told_length};
 ghost use Rattle.la_own.specs.Refusals.{IsOwnRefusal};
 ghost use Rattle.la_own.specs.declared.error.OwnError.TheVariants.{Memory};
 
@@ -80,7 +80,7 @@ pub fn own_op(alloc: Global, bytes: &[u8]) -> Result<Op, OwnError>
 /// The bytes of an operation of one's own, and `None` exactly of another operation. It takes no
 /// memory, and its cost is in proportion to the bytes.
 pub fn own_bytes(op: &Op) -> Option<OwnBytes>
-    ensures value { result ≡ bytes_of op.now }
+    ensures value { result ≡ own_bytes_of op.now }
     ensures some { IfSome result (λ bytes. AreOwnBytes bytes × (op.now ≡ own bytes)) }
     ensures none { IfNone result (¬ IsOwn op.now) }
 {
@@ -197,7 +197,7 @@ fn told_length(tags: &Tags) -> usize
 
 // The bytes of a `Remove` with these tags, where it is an operation of one's own.
 fn read(tags: &Tags) -> Option<OwnBytes>
-    ensures { result ≡ bytes_of (Remove tags.now) }
+    ensures { result ≡ own_bytes_of (Remove tags.now) }
 {
     let told = told_length(tags);
     if told > OWN_BYTES {

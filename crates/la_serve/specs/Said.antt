@@ -13,7 +13,7 @@ use Rattle.la_set.specs.declared.update.UpdateId.{UpdateId}
 use Rattle.la_set.specs.Counts.{count_in, counts_of, from_counts}
 use Rattle.la_set.specs.Histories.{Histories, history, count, get}
 use Rattle.la_set.specs.ObjectOps.{ObjectOp}
-use Rattle.la_own.specs.Own.{bytes_of as own_bytes_of}
+use Rattle.la_own.specs.Own.{own_bytes_of}
 use Rattle.la_proposer.specs.ProposerState.{op_on, submitted}
 use Rattle.la_commit.specs.declared.outcome.Outcome.{Outcome}
 use Rattle.la_object.specs.declared.error.ShelfError.{ShelfError}

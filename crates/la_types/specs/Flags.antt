@@ -7,7 +7,7 @@ use Rattle.la_set.specs.declared.update.UpdateId.{UpdateId}
 use Rattle.la_set.specs.declared.update.Op.{Op}
 use Rattle.la_set.specs.declared.update.Update.{Update}
 use Rattle.la_set.specs.Counts.{count_in, zero_counts}
-use Rattle.la_own.specs.Own.{own, bytes_of}
+use Rattle.la_own.specs.Own.{own, own_bytes_of}
 use Rattle.la_shelf.specs.Meanings.{Meaning}
 use Rattle.la_types.specs.declared.flag.FlagOp.{FlagOp}
 use Rattle.la_types.specs.declared.flag.FlagOp.TheVariants.{Enable, Disable}
@@ -34,7 +34,7 @@ flag_op does = own (flag_bytes does)
 
 -- what an operation does to a flag, where it is one of a flag's
 unfoldable pub flag_of : Op → Option FlagOp
-flag_of op = option_and_then flag_read (bytes_of op)
+flag_of op = option_and_then flag_read (own_bytes_of op)
 
 -- the operation with the same eight numbers
 abbrev pub plain_flag_op : FlagOp → FlagOp

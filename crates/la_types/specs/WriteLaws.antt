@@ -11,7 +11,7 @@ use Rattle.std.proofs.lemmas.List.Folds.{list_any-from_Any, list_any_none}
 use Rattle.la_set.specs.declared.update.UpdateId.{UpdateId}
 use Rattle.la_set.specs.declared.update.Op.{Op}
 use Rattle.la_set.specs.declared.update.Update.{Update}
-use Rattle.la_own.specs.Own.{bytes_of}
+use Rattle.la_own.specs.Own.{own_bytes_of}
 use Rattle.la_types.specs.declared.write.Write.{Write}
 use Rattle.la_types.specs.Writes.{is_before, precedes, later, with_write, last_write, write_read, write_of}
 
@@ -220,4 +220,4 @@ some_id id (Some bytes) x e = read_id id bytes (nat_le 8 (length bytes)) refl x 
 
 pub write_of-id : (id : UpdateId) (op : Op) (x : Write) → write_of id op ≡ Some x → x.id ≡ id
 unfolding write_of
-write_of-id id op x e = some_id id (bytes_of op) x e
+write_of-id id op x e = some_id id (own_bytes_of op) x e

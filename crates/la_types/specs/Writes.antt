@@ -7,7 +7,7 @@ use Rattle.std.specs.Int.{w64, to_le_bytes, from_le_bytes}
 use Rattle.la_set.specs.declared.update.UpdateId.{UpdateId}
 use Rattle.la_set.specs.declared.update.Op.{Op}
 use Rattle.la_set.specs.Ids.{id_below}
-use Rattle.la_own.specs.Own.{own, bytes_of}
+use Rattle.la_own.specs.Own.{own, own_bytes_of}
 use Rattle.la_types.specs.declared.write.Write.{Write}
 
 -- the first stamp and id come before the second
@@ -53,4 +53,4 @@ write_read id bytes =
 
 -- what an update with this operation writes, where it is a write
 unfoldable pub write_of : UpdateId → Op → Option Write
-write_of id op = option_and_then (write_read id) (bytes_of op)
+write_of id op = option_and_then (write_read id) (own_bytes_of op)

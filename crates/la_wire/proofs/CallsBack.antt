@@ -1,5 +1,6 @@
 -- Calls are read back from their lines.
-use Rattle.std.proofs.Common.{◌≡◌, ℕ, ◌≤◌, true, false, eqb, List, [], ◌∷◌, ◌++◌, length, map, All, Option, Some, None, Ok}
+use Rattle.std.proofs.Common.{◌≡◌, ℕ, ◌≤◌, true, false, eqb, List, [], ◌∷◌, ◌++◌, length, map, All, Option, Some}
+use Rattle.std.proofs.Common.{None, Ok}
 use Rattle.std.proofs.Common.{cond, refl, sym, ap, ◌∙◌, arith}
 use Rattle.std.specs.Fmt.{decimal}
 use Rattle.std.specs.Str.{bytes_eq}
@@ -43,7 +44,7 @@ use Rattle.la_wire.proofs.Decimals.{number-decimal, decimal-plain, is_plain, IsP
 use Rattle.la_wire.proofs.Joins.{words-back}
 use Rattle.la_wire.proofs.Ids.{tags-back}
 use Rattle.la_wire.proofs.Typed.{typed-op}
-use Rattle.la_own.specs.Own.{bytes_of as own_bytes_of}
+use Rattle.la_own.specs.Own.{own_bytes_of}
 use Rattle.la_own.proofs.lemmas.OwnTags.{bytes_of-made}
 use Rattle.la_wire.proofs.OwnTexts.{own-text-back}
 use Rattle.la_wire.proofs.FirstWords.{not_own}
@@ -123,22 +124,33 @@ module _ (r o : ℕ) (small_r : r ≤ u8_max) (small_o : o ≤ u16_max) where
             (length (map id_text (id ∷ ids))) 64 (omega (arith, few, length-map (id ∷ ids) id_text)),
       ) refl
 
-  inc-values : (x : ℕ) → x ≤ u32_max → values (form_places form.Inc) (submitted (op_words (op.Inc x))) no_values ≡ Some (record no_values { replica = r; object = o; amount = x })
+  inc-values : (x : ℕ) → x ≤ u32_max
+      → values (form_places form.Inc) (submitted (op_words (op.Inc x))) no_values ≡ Some
+      (record no_values { replica = r; object = o; amount = x })
   inc-values x few = rw (nr, no, number-decimal 0 u32_max x (omega arith) few (omega arith)) refl
 
-  dec-values : (x : ℕ) → x ≤ u32_max → values (form_places form.Dec) (submitted (op_words (op.Dec x))) no_values ≡ Some (record no_values { replica = r; object = o; amount = x })
+  dec-values : (x : ℕ) → x ≤ u32_max
+      → values (form_places form.Dec) (submitted (op_words (op.Dec x))) no_values ≡ Some
+      (record no_values { replica = r; object = o; amount = x })
   dec-values x few = rw (nr, no, number-decimal 0 u32_max x (omega arith) few (omega arith)) refl
 
-  raise-values : (x : ℕ) → x ≤ u64_max → values (form_places form.Raise) (submitted (op_words (op.Raise x))) no_values ≡ Some (record no_values { replica = r; object = o; value = x })
+  raise-values : (x : ℕ) → x ≤ u64_max
+      → values (form_places form.Raise) (submitted (op_words (op.Raise x))) no_values ≡ Some
+      (record no_values { replica = r; object = o; value = x })
   raise-values x few = rw (nr, no, number-decimal 0 u64_max x (omega arith) few (omega arith)) refl
 
-  put-values : (x : ℕ) → x ≤ u64_max → values (form_places form.Put) (submitted (op_words (op.Put x))) no_values ≡ Some (record no_values { replica = r; object = o; value = x })
+  put-values : (x : ℕ) → x ≤ u64_max
+      → values (form_places form.Put) (submitted (op_words (op.Put x))) no_values ≡ Some
+      (record no_values { replica = r; object = o; value = x })
   put-values x few = rw (nr, no, number-decimal 0 u64_max x (omega arith) few (omega arith)) refl
 
-  mark-values : values (form_places form.Mark) (submitted (op_words op.Mark)) no_values ≡ Some (record no_values { replica = r; object = o })
+  mark-values : values (form_places form.Mark) (submitted (op_words op.Mark)) no_values ≡ Some
+  (record no_values { replica = r; object = o })
   mark-values = rw (nr, no) refl
 
-  remove-values : (ids : List UpdateId) → tag_words (map id_text ids) ≡ Some ids → values (form_places form.Remove) (submitted (remove_words ids None)) no_values ≡ Some (record no_values { replica = r; object = o; tags = ids })
+  remove-values : (ids : List UpdateId) → tag_words (map id_text ids) ≡ Some ids
+      → values (form_places form.Remove) (submitted (remove_words ids None)) no_values ≡ Some
+      (record no_values { replica = r; object = o; tags = ids })
   remove-values [] back = rw (nr, no) refl
   remove-values (id ∷ ids) back = rw (nr, no, back) refl
 
@@ -208,13 +220,17 @@ module _ (r o : ℕ) (small_r : r ≤ u8_max) (small_o : o ≤ u16_max) where
   total-values : values (form_places form.Total) (asked (query_words query.Total)) no_values ≡ Some asks
   total-values = rw (nr, no) refl
 
-  atleast-values : (x : ℕ) → x ≤ u64_max → values (form_places form.AtLeast) (asked (query_words (query.AtLeast x))) no_values ≡ Some (record no_values { replica = r; object = o; value = x })
+  atleast-values : (x : ℕ) → x ≤ u64_max
+      → values (form_places form.AtLeast) (asked (query_words (query.AtLeast x))) no_values ≡ Some
+      (record no_values { replica = r; object = o; value = x })
   atleast-values x few = rw (nr, no, number-decimal 0 u64_max x (omega arith) few (omega arith)) refl
 
   largest-values : values (form_places form.Largest) (asked (query_words query.Largest)) no_values ≡ Some asks
   largest-values = rw (nr, no) refl
 
-  has-values : (x : ℕ) → x ≤ u64_max → values (form_places form.Has) (asked (query_words (query.Has x))) no_values ≡ Some (record no_values { replica = r; object = o; value = x })
+  has-values : (x : ℕ) → x ≤ u64_max
+      → values (form_places form.Has) (asked (query_words (query.Has x))) no_values ≡ Some
+      (record no_values { replica = r; object = o; value = x })
   has-values x few = rw (nr, no, number-decimal 0 u64_max x (omega arith) few (omega arith)) refl
 
   size-values : values (form_places form.Size) (asked (query_words query.Size)) no_values ≡ Some asks
@@ -247,7 +263,9 @@ decide-event r c v lr lc lv =
     (rw (some r (omega arith), some c (omega arith), some v lv) refl)
     (decide-values r c v lr lc lv)
   where
-    decide-values : (r c v : ℕ) → r ≤ u8_max → c ≤ u8_max → v ≤ u64_max → values (form_places form.Decide) (spelling keyword.Decide ∷ decimal r ∷ decimal c ∷ decimal v ∷ []) no_values ≡ Some (record no_values { replica = r; commit = c; value = v })
+    decide-values : (r c v : ℕ) → r ≤ u8_max → c ≤ u8_max → v ≤ u64_max
+        → values (form_places form.Decide) (spelling keyword.Decide ∷ decimal r ∷ decimal c ∷ decimal v ∷ [])
+        no_values ≡ Some (record no_values { replica = r; commit = c; value = v })
     decide-values r c v lr lc lv =
         rw (
           number-decimal 0 u8_max r (omega arith) lr (omega arith),
@@ -274,7 +292,8 @@ query-plain query.Largest is =
     All-cons IsPlain (spelling keyword.Largest) [] (AllPass-from_list_all is_plain (spelling keyword.Largest) refl)
     (All-nil IsPlain)
 query-plain (query.Has x) is =
-    All-cons IsPlain (spelling keyword.Has) (decimal x ∷ []) (AllPass-from_list_all is_plain (spelling keyword.Has) refl)
+    All-cons IsPlain (spelling keyword.Has) (decimal x ∷ [])
+    (AllPass-from_list_all is_plain (spelling keyword.Has) refl)
     (All-cons IsPlain (decimal x) [] (decimal-plain x (omega (arith, is))) (All-nil IsPlain))
 query-plain query.Size is =
     All-cons IsPlain (spelling keyword.Size) [] (AllPass-from_list_all is_plain (spelling keyword.Size) refl)
@@ -300,7 +319,8 @@ script-line line first more e call none known is other back event =
     (ap (λ b. cond b (own_words_call (first ∷ more)) (script_words (first ∷ more))) (not_own first more other)
     ∙ ap script_call back ∙ event)
 
-submit-back : (r o : ℕ) (does : Op) → IsCall (Submit r o does) → call_of (call_line_text (Submit r o does)) ≡ Ok (Submit r o does)
+submit-back : (r o : ℕ) (does : Op) → IsCall (Submit r o does)
+    → call_of (call_line_text (Submit r o does)) ≡ Ok (Submit r o does)
 unfolding call_of
 submit-back r o does is =
     worded-line (call_line_text (Submit r o does)) (submitted r o is.0 is.1 (op_words does)) (Submit r o does) refl refl

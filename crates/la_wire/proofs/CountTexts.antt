@@ -137,7 +137,8 @@ pub written_next : (c : Counts) (r : ℕ) (before after all : List ℕ) → r < 
     → before ++ spaced 44 (map decimal (drop r (take (used c) (numbers_in c)))) ≡ all
     → after ++ spaced 44 (map decimal (drop (r + 1) (take (used c) (numbers_in c)))) ≡ all
 written_next c r before after all lt is so_far =
-    put_next 44 decimal (written c) r (count_in c r) before after all (written_number c (used c) r (used-high c) lt) is so_far
+    put_next 44 decimal (written c) r (count_in c r) before after all (written_number c (used c) r (used-high c) lt)
+    is so_far
 
 -- and the last one
 pub written_last : (c : Counts) (r : ℕ) (out all : List ℕ) → used c ≤ r
@@ -287,7 +288,9 @@ written-few c is = All-take (λ n. n ≤ u32_max) (used c) (numbers_in c) (numbe
 
 parts-of : (c : Counts) → IsCounts c → parted 44 (counts_text c) ≡ map decimal (written c)
 unfolding counts_text
-parts-of c is = parts (written c) (written-few c is) (omega (arith, used-low c, length-take-le (used c) (numbers_in c) (used-high c)))
+parts-of c is =
+    parts (written c) (written-few c is)
+    (omega (arith, used-low c, length-take-le (used c) (numbers_in c) (used-high c)))
   where
     no-comma : (ns : List ℕ) → All (λ n. n ≤ u32_max) ns → All (Lacks 44) (map decimal ns)
     no-comma ns all =

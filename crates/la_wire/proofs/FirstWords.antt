@@ -18,7 +18,8 @@ use Rattle.la_wire.specs.declared.updates.Verb.TheVariants as verb
 use Rattle.la_wire.specs.MessageLines.{kind_word, known_word}
 use Rattle.la_wire.specs.Calls.{WireCall, Tick}
 use Rattle.la_wire.specs.Updates.{verb_spelling}
-use Rattle.la_wire.specs.CallLines.{tick_word, script_call, script_words, are_own, own_words_call, words_call, known_call}
+use Rattle.la_wire.specs.CallLines.{tick_word, script_call, script_words, are_own, own_words_call, words_call}
+use Rattle.la_wire.specs.CallLines.{known_call}
 use Rattle.la_wire.specs.CallLines.{first_kind, call_by, call_of, said_ok, named_call}
 use Rattle.la_wire.specs.Joined.{front_word}
 

@@ -1,5 +1,7 @@
 -- Ids and tags are read back.
-use Rattle.std.proofs.Common.{◌≡◌, ℕ, zero, suc, ◌<◌, Bool, true, false, List, [], ◌∷◌, ◌++◌, length, get_or, map, filter, All, AllPairs, Some, option_map, refl, sym, ap, ◌∙◌, subst, append-nil, append_assoc, arith, inl, inr}
+use Rattle.std.proofs.Common.{◌≡◌, ℕ, zero, suc, ◌<◌, Bool, true, false, List, [], ◌∷◌, ◌++◌, length, get_or, map}
+use Rattle.std.proofs.Common.{filter, All, AllPairs, Some, option_map, refl, sym, ap, ◌∙◌, subst, append-nil}
+use Rattle.std.proofs.Common.{append_assoc, arith, inl, inr}
 use Rattle.std.specs.Fmt.{decimal}
 use Rattle.std.proofs.lemmas.Bool.{cases_Bool}
 use Rattle.std.proofs.lemmas.List.{length-append}
@@ -28,7 +30,8 @@ id-plain id is =
     (All-append (λ b. is_plain b ≡ true) (decimal id.replica) (46 ∷ decimal id.number) one
     (All-cons (λ b. is_plain b ≡ true) 46 (decimal id.number) refl two))
 
-tag-numbers : (a b : List ℕ) (r n : ℕ) → number 0 u8_max a ≡ Some r → number 1 u32_max b ≡ Some n → tag_in a b ≡ Some (record { replica = r; number = n })
+tag-numbers : (a b : List ℕ) (r n : ℕ) → number 0 u8_max a ≡ Some r → number 1 u32_max b ≡ Some n
+    → tag_in a b ≡ Some (record { replica = r; number = n })
 tag-numbers a b r n e f = rw (e, f) refl
 
 -- the two numbers of an id
@@ -56,7 +59,8 @@ each-back (id ∷ ids) all = rw (id-back id (All-head IsId id ids all), each-bac
 filter_whole : (p : UpdateId → Bool) (xs : List UpdateId) → All (λ x. p x ≡ true) xs → filter p xs ≡ xs
 filter_whole p [] all = refl
 filter_whole p (x ∷ xs) all =
-    rw (All-head (λ y. p y ≡ true) x xs all) (ap (λ ys. x ∷ ys) (filter_whole p xs (All-tail (λ y. p y ≡ true) x xs all)))
+    rw (All-head (λ y. p y ≡ true) x xs all)
+    (ap (λ ys. x ∷ ys) (filter_whole p xs (All-tail (λ y. p y ≡ true) x xs all)))
 
 filter_nothing : (p : UpdateId → Bool) (xs : List UpdateId) → All (λ x. p x ≡ false) xs → filter p xs ≡ []
 filter_nothing p [] all = refl

@@ -14,7 +14,8 @@ abbrev pub Lacks : ℕ → List ℕ → Type 0
 Lacks byte w = All (λ b. eqb b byte ≡ false) w
 
 -- parts that lack the byte between them
-pub parted-joined : (byte : ℕ) (w : List ℕ) (ws : List (List ℕ)) → eqb byte byte ≡ true → Lacks byte w → All (Lacks byte) ws
+pub parted-joined : (byte : ℕ) (w : List ℕ) (ws : List (List ℕ)) → eqb byte byte ≡ true → Lacks byte w
+    → All (Lacks byte) ws
     → parted byte (w ++ spaced byte ws) ≡ w ∷ ws
 parted-joined byte w [] own one rest =
     ap (slice_split (λ b. eqb b byte)) (append-nil w) ∙ slice_split_none (λ b. eqb b byte) w one

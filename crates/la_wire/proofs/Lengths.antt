@@ -26,7 +26,7 @@ use Rattle.la_wire.specs.Calls.{Receive}
 use Rattle.la_wire.specs.CallLines.{bounded_call_of}
 use Rattle.la_wire.specs.Writable.{IsIdFrom, IsOpFrom, IsUpdateFrom, IsBodyFrom, IsCounts, IsMessage, IsTypedMessage}
 use Rattle.la_wire.specs.Writable.{IsTagless}
-use Rattle.la_own.specs.Own.{bytes_of as own_bytes_of}
+use Rattle.la_own.specs.Own.{own_bytes_of}
 use Rattle.la_own.proofs.lemmas.OwnTags.{bytes_of-made}
 use Rattle.la_wire.proofs.OwnTexts.{own-length}
 use Rattle.la_wire.proofs.Ids.{id-text}

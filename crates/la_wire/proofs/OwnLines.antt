@@ -54,7 +54,8 @@ by_words line a b c w text is =
       front-is (behind_word (behind_word (behind_word line))) w (text ∷ []) three,
     )
 
-own-may : (line : List ℕ) (words : List (List ℕ)) → words_of line ≡ words → are_own words ≡ true → may_be_own line ≡ true
+own-may : (line : List ℕ) (words : List (List ℕ)) → words_of line ≡ words → are_own words ≡ true
+    → may_be_own line ≡ true
 own-may line [] is own = absurd (false≢true own)
 own-may line (a ∷ []) is own = absurd (false≢true own)
 own-may line (a ∷ b ∷ []) is own = absurd (false≢true own)

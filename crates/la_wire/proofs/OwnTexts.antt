@@ -1,6 +1,6 @@
 -- The bytes of an operation of one's own, written and read back.
 use Rattle.std.proofs.Common.{◌≡◌, ℕ, ◌/◌, ◌%◌, ◌<◌, ◌≤◌, true, false, cond, List, [], ◌∷◌}
-use Rattle.std.proofs.Common.{length, All, Some, Ok, Err, slice_index, codes, refl, sym, ap, ◌∙◌, arith, subst, inl, inr}
+use Rattle.std.proofs.Common.{length, All, Ok, Err, slice_index, codes, refl, sym, ap, ◌∙◌, arith, subst, inl, inr}
 use Rattle.std.specs.Str.{bytes_eq}
 use Rattle.std.proofs.lemmas.Bool.{cases_lt, le-leb, false_from_ne_true}
 use Rattle.std.proofs.lemmas.List.{get_or_past}
@@ -13,12 +13,11 @@ use Rattle.la_set.specs.declared.update.UpdateId.{UpdateId}
 use Rattle.la_set.specs.declared.update.Op.{Op}
 use Rattle.la_set.specs.declared.update.Op.TheVariants.{Remove}
 use Rattle.la_set.specs.Tags.{IsTags}
-use Rattle.la_own.specs.Own.{AreOwnBytes, own, bytes_of as own_bytes_of}
+use Rattle.la_own.specs.Own.{AreOwnBytes, own}
 use Rattle.la_own.specs.declared.own.TheConstants.{OWN_BYTES}
 use Rattle.la_own.proofs.lemmas.OwnTags.{own_tags-fit}
 use Rattle.la_wire.specs.declared.error.LineFault.TheVariants.{BadNumber}
-use Rattle.la_wire.specs.declared.updates.Verb.TheVariants as verb
-use Rattle.la_wire.specs.Updates.{verb_spelling, own_text, own_decoded, own_on, remove_words, op_words}
+use Rattle.la_wire.specs.Updates.{own_text, own_decoded, own_on}
 use Rattle.la_wire.specs.Writable.{IsIdFrom, IsOpFrom}
 use Rattle.la_wire.proofs.Decimals.{is_plain, IsPlain}
 
@@ -95,19 +94,15 @@ is-id least tag low fits =
     record { replica = omega (arith, fits.0); some = omega (arith, low, fits.1); number = omega (arith, fits.2) }
 
 -- each is an id
-pub own-ids : (least : ℕ) (tags : List UpdateId) (bytes : List ℕ) → least ≤ 1 → AreOwnBytes bytes → Remove tags ≡ own bytes
+pub own-ids : (least : ℕ) (tags : List UpdateId) (bytes : List ℕ) → least ≤ 1 → AreOwnBytes bytes
+    → Remove tags ≡ own bytes
     → All (IsIdFrom least) tags
 own-ids least tags bytes low are is =
     All-weaker Fits (IsIdFrom least) (λ tag fits. is-id least tag low fits) tags (fit tags bytes are is)
 
 -- a remove that is one of one's own
-pub own-typed : (does : Op) (tags : List UpdateId) (bytes : List ℕ) → does ≡ Remove tags → IsTags tags → AreOwnBytes bytes
+pub own-typed : (does : Op) (tags : List UpdateId) (bytes : List ℕ) → does ≡ Remove tags → IsTags tags
+    → AreOwnBytes bytes
     → does ≡ own bytes → IsOpFrom 0 does
 own-typed does tags bytes remove are_tags are is =
     subst (IsOpFrom 0) (sym remove) (are_tags, own-ids 0 tags bytes (omega arith) are (sym remove ∙ is))
-
--- it is written as the bytes say
-pub own-written : (does : Op) (tags : List UpdateId) (bytes : List ℕ) → does ≡ Remove tags
-    → own_bytes_of does ≡ Some bytes → op_words does ≡ verb_spelling verb.Own ∷ own_text bytes ∷ []
-own-written does tags bytes remove some =
-    ap op_words remove ∙ ap (remove_words tags) (ap own_bytes_of (sym remove) ∙ some)

@@ -12,7 +12,8 @@ use Rattle.la_wire.specs.Joined.{front_word}
 use Rattle.la_wire.proofs.FirstWords.{first_part}
 
 no_question : (line : List ℕ) → bytes_eq (front_word line) status_word ≡ false
-    → bytes_eq (front_word line) update_word ≡ false → bytes_eq (front_word line) (spelling keyword.Ask) ≡ false → question_in line ≡ None
+    → bytes_eq (front_word line) update_word ≡ false → bytes_eq (front_word line) (spelling keyword.Ask) ≡ false →
+    question_in line ≡ None
 unfolding question_in
 no_question line status update ask =
     let part = first_part (λ b. b == 32) line in

@@ -231,7 +231,8 @@ module _ (line : List ℕ) (c : WireCall) (says : named_call line ≡ Some c) wh
     | inl is ↦
         absurd (none-some c (sym (no_status more) ∙ words_say status_word is refl refl refl))
     | inr no_status ↦
-        ap (λ b. cond b (status_asked more) (cond (bytes_eq first update_word) (update_asked more) by_ask_alone)) no_status
+        ap (λ b. cond b (status_asked more) (cond (bytes_eq first update_word) (update_asked more) by_ask_alone))
+        no_status
         ∙ by_update (bytes_eq first update_word) refl
   ]
     where

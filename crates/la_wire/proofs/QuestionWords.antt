@@ -9,7 +9,8 @@ use Rattle.la_script.specs.declared.forms.Keyword.TheVariants as keyword
 use Rattle.la_script.specs.Forms.{spelling}
 use Rattle.la_script.specs.Lines.{words_of}
 use Rattle.la_script.specs.Words.{bytes_of}
-use Rattle.la_wire.specs.Questions.{tags_word, at_word, question_asked, update_asked, take_by, awaited_by, from_last, awaits}
+use Rattle.la_wire.specs.Questions.{tags_word, at_word, question_asked, update_asked, take_by, awaited_by, from_last}
+use Rattle.la_wire.specs.Questions.{awaits}
 use Rattle.la_wire.specs.Questions.{awaited_in}
 
 -- of other numbers of words

@@ -21,7 +21,7 @@ use Rattle.la_wire.specs.declared.error.LineFault.TheVariants.{BadLine, BadNumbe
 use Rattle.la_wire.specs.declared.messages.Kind.{Kind}
 use Rattle.la_wire.specs.Joined.{parted}
 use Rattle.la_wire.specs.Readings.{◌>>=◌, or_line_fault, with_rest, first_number}
-use Rattle.la_own.specs.Own.{bytes_of as own_bytes_of}
+use Rattle.la_own.specs.Own.{own_bytes_of}
 use Rattle.la_own.proofs.lemmas.OwnTags.{bytes_of-made}
 use Rattle.la_wire.specs.Updates.{made, line_tags, remove_words, op_words, op_at, op_in, update_words, update_text}
 use Rattle.la_wire.specs.Updates.{update_in}

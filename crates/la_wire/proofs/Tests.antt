@@ -46,7 +46,8 @@ decides-all p P each xs = (
 
 decides-id : (id : UpdateId) → Decides (is_id id) (IsId id)
 decides-id id =
-    Decides-like (is_id id) (λ p. record { replica = p.0; some = p.1.0; number = p.1.1 }) (λ is. (is.replica, (is.some, is.number)))
+    Decides-like (is_id id) (λ p. record { replica = p.0; some = p.1.0; number = p.1.1 })
+    (λ is. (is.replica, (is.some, is.number)))
     (Decides-and (leb id.replica u8_max) (leb 1 id.number && leb id.number u32_max) (decides-le id.replica u8_max)
     (Decides-and (leb 1 id.number) (leb id.number u32_max) (decides-le 1 id.number) (decides-le id.number u32_max)))
 
@@ -82,7 +83,8 @@ decides-op (Vote x sole) = decides-le x u64_max
 
 decides-update : (u : Update) → Decides (is_wire_update u) (IsUpdate u)
 decides-update u =
-    Decides-like (is_wire_update u) (λ p. record { id = p.0; object = p.1.0; op = p.1.1 }) (λ is. (is.id, (is.object, is.op)))
+    Decides-like (is_wire_update u) (λ p. record { id = p.0; object = p.1.0; op = p.1.1 })
+    (λ is. (is.id, (is.object, is.op)))
     (Decides-and (is_id u.id) (leb u.object u16_max && is_op u.op) (decides-id u.id)
     (Decides-and (leb u.object u16_max) (is_op u.op) (decides-le u.object u16_max) (decides-op u.op)))
 
@@ -91,7 +93,9 @@ decides-updates us = decides-all is_wire_update IsUpdate decides-update us
 
 counts-from : (c : Counts) → length c.of ≡ 8 → All (λ n. n ≤ u32_max) c.of → (r : ℕ) → count_in c r ≤ u32_max
 counts-from c eight all r = elim (cases_lt r 8) [
-  | inl lt ↦ subst (λ n. n ≤ u32_max) (sym (count_in-known c r lt)) (All-get_or (λ n. n ≤ u32_max) c.of r 0 (omega (arith, lt, eight)) all)
+  | inl lt ↦
+      subst (λ n. n ≤ u32_max) (sym (count_in-known c r lt))
+      (All-get_or (λ n. n ≤ u32_max) c.of r 0 (omega (arith, lt, eight)) all)
   | inr le ↦ subst (λ n. n ≤ u32_max) (sym (count_in-past c r le)) (omega arith)
 ]
 
@@ -102,7 +106,8 @@ counts-to c is =
 
 decides-counts : (c : Counts) → Decides (are_counts c) (IsCounts c)
 decides-counts c =
-    Decides-like (are_counts c) (λ p. record { eight = p.0; each = counts-from c p.0 p.1 }) (λ is. (is.eight, counts-to c is))
+    Decides-like (are_counts c) (λ p. record { eight = p.0; each = counts-from c p.0 p.1 })
+    (λ is. (is.eight, counts-to c is))
     (Decides-and (eqb (length c.of) 8) (list_all (λ n. leb n u32_max) c.of) (Decides-eqb (length c.of) 8)
     (decides-all (λ n. leb n u32_max) (λ n. n ≤ u32_max) (λ n. decides-le n u32_max) c.of))
 

@@ -1,5 +1,6 @@
 -- Updates are read back from their parts.
-use Rattle.std.proofs.Common.{◌≡◌, ℕ, ◌≤◌, true, false, List, [], ◌∷◌, length, map, All, Option, Some, None, Ok, refl, sym}
+use Rattle.std.proofs.Common.{◌≡◌, ℕ, ◌≤◌, true, false, List, [], ◌∷◌, length, map, All, Option, Some, None, Ok, refl}
+use Rattle.std.proofs.Common.{sym}
 use Rattle.std.proofs.Common.{ap, ◌∙◌, arith}
 use Rattle.std.specs.Fmt.{decimal}
 use Rattle.std.proofs.lemmas.Bool.{le-leb}
@@ -10,7 +11,7 @@ use Rattle.la_set.specs.declared.update.UpdateId.{UpdateId}
 use Rattle.la_set.specs.declared.update.Update.{Update}
 use Rattle.la_set.specs.declared.update.Op.{Op}
 use Rattle.la_set.specs.declared.update.Op.TheVariants.{Inc, Dec, Raise, Put, Remove, Mark, Vote}
-use Rattle.la_own.specs.Own.{bytes_of as own_bytes_of}
+use Rattle.la_own.specs.Own.{own_bytes_of}
 use Rattle.la_own.proofs.lemmas.OwnTags.{bytes_of-made}
 use Rattle.la_script.specs.Numbers.{u16_max, u32_max, u64_max, number}
 use Rattle.la_script.specs.Tags.{tag_of, tag_words}

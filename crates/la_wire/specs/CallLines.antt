@@ -73,11 +73,9 @@ script_words words = script_call (event_in words (form_of Two words))
 
 -- a submission of an operation of one's own, by three words behind `submit` and `own`
 abbrev pub own_call : (replica object text : List ℕ) → Result WireCall LineFault
-own_call replica object text = do
-  r ← number_on 0 u8_max replica
-  o ← number_on 0 u16_max object
-  does ← own_on text
-  Ok (Submit r o does)
+own_call replica object text =
+    number_on 0 u8_max replica
+    >>= (λ r. number_on 0 u16_max object >>= (λ o. own_on text >>= (λ does. Ok (Submit r o does))))
 
 -- whether a line's fourth word is `own`, and its first `submit`
 abbrev pub may_be_own : List ℕ → Bool

@@ -96,7 +96,8 @@ fault_name line.BadNumber = codes "BadNumber"
 -- what is told on standard error of a line that has a fault, with the part that is wrong
 abbrev pub line_fault_line : (number : ℕ) → LineFault → Option WrongPart → (name : List ℕ) → List ℕ
 line_fault_line number fault wrong name =
-    codes "line " ++ decimal number ++ codes ": " ++ fault_name fault ++ part_text wrong ++ spaced 32 (name_words name) ++
+    codes "line " ++ decimal number ++ codes ": " ++ fault_name fault ++ part_text wrong ++ spaced 32
+    (name_words name) ++
     10 ∷ []
 
 -- ## Letters

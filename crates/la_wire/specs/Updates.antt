@@ -13,7 +13,7 @@ use Rattle.la_script.specs.Forms.{spelling as word_of}
 use Rattle.la_script.specs.Text.{id_text}
 use Rattle.la_script.specs.Tags.{tag_words}
 use Rattle.la_script.specs.Numbers.{u16_max, u32_max, u64_max}
-use Rattle.la_own.specs.Own.{own, bytes_of as own_bytes_of}
+use Rattle.la_own.specs.Own.{own, own_bytes_of}
 use Rattle.la_own.specs.declared.own.TheConstants.{OWN_BYTES}
 use Rattle.hex.specs.Hex.{encode_lower, decode_of}
 use Rattle.hex.specs.declared.error.FromHexError.{FromHexError}

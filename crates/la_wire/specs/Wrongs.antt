@@ -1,5 +1,6 @@
 -- Which part of a client's line is wrong: the first word that may not stand where it stands, or the line's end.
-use Rattle.std.specs.Prelude.{ℕ, ◌%◌, ◌==◌, Bool, true, false, nat_le, ◌&&◌, ◌||◌, List, [], ◌∷◌, ◌++◌, length, map, take}
+use Rattle.std.specs.Prelude.{ℕ, ◌%◌, ◌==◌, Bool, true, false, nat_le, ◌&&◌, ◌||◌, List, [], ◌∷◌, ◌++◌, length, map}
+use Rattle.std.specs.Prelude.{take}
 use Rattle.std.specs.Prelude.{codes}
 use Rattle.std.specs.List.{list_all}
 use Rattle.std.specs.Char.{is_ascii_hexdigit}
@@ -77,24 +78,24 @@ is_own_text word =
     && ((length word % 2 == 0) && list_all is_ascii_hexdigit word))
 
 -- what may stand behind a word, where it may stand itself
-abbrev pub behind : Wanted → List ℕ → Option Wanted
-behind wanted.Call word = behind_call word
-behind wanted.Submitter word = follows (is_some (number 0 u8_max word)) wanted.Changed
-behind wanted.Changed word = follows (is_some (number 0 u16_max word)) wanted.Operation
-behind wanted.Operation word = behind_operation word
-behind wanted.Asked word = follows (is_some (number 0 u8_max word)) wanted.Looked
-behind wanted.Looked word = follows (is_some (number 0 u16_max word)) wanted.Question
-behind wanted.Question word = behind_question word
-behind wanted.Decider word = follows (is_some (number 0 u8_max word)) wanted.Decided
-behind wanted.Decided word = follows (is_some (number 0 u8_max word)) wanted.Value
-behind wanted.Holder word = follows (is_some (number 0 u8_max word)) wanted.Held
-behind wanted.Held word = follows (is_some (tag_of word)) wanted.End
-behind wanted.Stands word = follows (is_some (number 0 u8_max word)) wanted.End
-behind wanted.Amount word = follows (is_some (number 0 u32_max word)) wanted.End
-behind wanted.Value word = follows (is_some (number 0 u64_max word)) wanted.End
-behind wanted.Tag word = follows (is_some (tag_of word)) wanted.Tag
-behind wanted.Own word = follows (is_own_text word) wanted.End
-behind wanted.End word = None
+abbrev pub wanted_behind : Wanted → List ℕ → Option Wanted
+wanted_behind wanted.Call word = behind_call word
+wanted_behind wanted.Submitter word = follows (is_some (number 0 u8_max word)) wanted.Changed
+wanted_behind wanted.Changed word = follows (is_some (number 0 u16_max word)) wanted.Operation
+wanted_behind wanted.Operation word = behind_operation word
+wanted_behind wanted.Asked word = follows (is_some (number 0 u8_max word)) wanted.Looked
+wanted_behind wanted.Looked word = follows (is_some (number 0 u16_max word)) wanted.Question
+wanted_behind wanted.Question word = behind_question word
+wanted_behind wanted.Decider word = follows (is_some (number 0 u8_max word)) wanted.Decided
+wanted_behind wanted.Decided word = follows (is_some (number 0 u8_max word)) wanted.Value
+wanted_behind wanted.Holder word = follows (is_some (number 0 u8_max word)) wanted.Held
+wanted_behind wanted.Held word = follows (is_some (tag_of word)) wanted.End
+wanted_behind wanted.Stands word = follows (is_some (number 0 u8_max word)) wanted.End
+wanted_behind wanted.Amount word = follows (is_some (number 0 u32_max word)) wanted.End
+wanted_behind wanted.Value word = follows (is_some (number 0 u64_max word)) wanted.End
+wanted_behind wanted.Tag word = follows (is_some (tag_of word)) wanted.Tag
+wanted_behind wanted.Own word = follows (is_own_text word) wanted.End
+wanted_behind wanted.End word = None
 
 -- where a line may end
 abbrev pub may_end : Wanted → Bool
@@ -123,7 +124,7 @@ wrong_unless is word (Some next) rest = rest next
 
 abbrev pub wrong_in : Wanted → List (List ℕ) → Option WrongPart
 wrong_in is [] = wrong_end is (may_end is)
-wrong_in is (word ∷ words) = wrong_unless is word (behind is word) (λ next. wrong_in next words)
+wrong_in is (word ∷ words) = wrong_unless is word (wanted_behind is word) (λ next. wrong_in next words)
 
 -- of a line without a name; none of another replica's, nor where each word may stand
 unfoldable pub wrong_part : List ℕ → Option WrongPart

@@ -6,7 +6,7 @@ ghost use Rattle.std.specs.Char.{is_ascii_hexdigit};
 ghost use Rattle.la_script.specs.Words.{bytes_of};
 ghost use Rattle.la_script.specs.Numbers.{u8_max, u16_max, number};
 ghost use Rattle.la_wire.specs.Wrongs.{follows, behind_call, behind_verb, behind_operation, behind_question};
-ghost use Rattle.la_wire.specs.Wrongs.{behind, is_own_text, may_end};
+ghost use Rattle.la_wire.specs.Wrongs.{wanted_behind, is_own_text, may_end};
 ghost use Rattle.la_wire.specs.Wrongs.{wrong_view, wrong_in, wrong_part, wrong_of, is_none_text};
 
 use crate::LineFault;
@@ -178,7 +178,7 @@ fn is_own_text(word: &[u8]) -> bool
 impl Wanted {
     // What may stand behind a word, where it may stand here.
     fn behind(self, word: &[u8]) -> Option<Wanted>
-        ensures { result ≡ behind self word.now }
+        ensures { result ≡ wanted_behind self word.now }
     {
         match self {
             Wanted::Call => behind_call(word),

@@ -1,18 +1,20 @@
 // la_wire: what a client asks that no call says, what it takes and waits for, and what it is answered.
 use crate::holds::holds;
 use la_node::Links;
+use la_own::own_op;
 use la_replica::Progress;
-use la_set::{Counts, Tags, UpdateId};
+use la_set::{Counts, Op, Tags, Update, UpdateId};
 use la_wire::{
-    Kinds, NodeStatus, Question, Take, Tally, awaited_in, put_status, put_tags_answer,
-    put_updates_answer, put_waiting, question_in, take_in,
+    Kinds, LineFault, NodeStatus, Question, Take, Tally, Wanted, Wrong, awaited_in, put_status,
+    put_tags_answer, put_update_answer, put_updates_answer, put_waiting, question_in, take_in,
+    wrong_part,
 };
 use std::alloc::{AllocError, Global};
 use test_memory::{Came, again, refused};
 
 // ## Lines that are read
 
-const QUESTIONS: [(&str, Option<Question>); 16] = [
+const QUESTIONS: [(&str, Option<Question>); 20] = [
     (
         "ask 255 65535 tags 18446744073709551615",
         Some(Question::Tags {
@@ -28,6 +30,16 @@ const QUESTIONS: [(&str, Option<Question>); 16] = [
             object: 1,
         }),
     ),
+    (
+        "update 7 255.4294967295",
+        Some(Question::Update {
+            replica: 7,
+            id: IDS[1],
+        }),
+    ),
+    ("update 7 255.0", None),
+    ("update 256 1.1", None),
+    ("update 7", None),
     ("status 0", Some(Question::Status { replica: 0 })),
     ("status", None),
     ("status 256", None),
@@ -144,6 +156,76 @@ fn waits_all(alloc: Global) -> Came {
     Some(true)
 }
 
+// ## What is wrong with a line
+
+// What is to stand there, and the word that does; none where the line ends.
+const WRONG: [(&str, Option<(Wanted, Option<&str>)>); 26] = [
+    ("subtract 0 1", Some((Wanted::Call, Some("subtract")))),
+    ("", Some((Wanted::Call, Some("")))),
+    (
+        "submit 256 1 incr 5",
+        Some((Wanted::Submitter, Some("256"))),
+    ),
+    (
+        "submit 0 65536 inc 5",
+        Some((Wanted::Changed, Some("65536"))),
+    ),
+    ("submit 0 1 incr 5", Some((Wanted::Operation, Some("incr")))),
+    ("submit 0 1 vote 5", Some((Wanted::Operation, Some("vote")))),
+    (
+        "submit 0 1 dec 4294967296",
+        Some((Wanted::Amount, Some("4294967296"))),
+    ),
+    ("submit 0 1 put 05", Some((Wanted::Value, Some("05")))),
+    ("submit 0 3 take", Some((Wanted::Value, None))),
+    ("submit 0 3 remove 1.1 1", Some((Wanted::Tag, Some("1")))),
+    ("submit 0 3 remove", None),
+    ("submit 0 1 mark 5", Some((Wanted::End, Some("5")))),
+    ("submit 0 9 own 0a0", Some((Wanted::Own, Some("0a0")))),
+    ("submit 0 9 own", Some((Wanted::Own, None))),
+    ("submit 0 9 own 0A", None),
+    ("ask 0 1 totals", Some((Wanted::Question, Some("totals")))),
+    ("ask x 1 total", Some((Wanted::Asked, Some("x")))),
+    ("ask 0  total", Some((Wanted::Looked, Some("")))),
+    ("ask 0 3 tags", Some((Wanted::Value, None))),
+    ("decide 00 1 5", Some((Wanted::Decider, Some("00")))),
+    ("decide 0 256 5", Some((Wanted::Decided, Some("256")))),
+    ("update 0", Some((Wanted::Held, None))),
+    ("status", Some((Wanted::Stands, None))),
+    ("tick 0", Some((Wanted::End, Some("0")))),
+    ("tell 3 0", None),
+    ("known", None),
+];
+
+fn is_wrong(alloc: Global, line: &str, want: Option<(Wanted, Option<&str>)>) -> Came {
+    let Ok(came) = wrong_part(alloc, LineFault::BadLine, line.as_bytes()) else {
+        return None;
+    };
+    match (came, want) {
+        (None, None) => Some(true),
+        (Some(it), Some((wanted, word))) => {
+            Some(it.wanted == wanted && it.word == word.map(|it| it.as_bytes()))
+        }
+        _ => Some(false),
+    }
+}
+
+fn all_wrong(alloc: Global) -> Came {
+    for (line, want) in WRONG {
+        if !again!(alloc, is_wrong(alloc, line, want))? {
+            return Some(false);
+        }
+    }
+    Some(is_none(wrong_part(alloc, LineFault::TooLong, b"x")))
+}
+
+fn is_none(came: Result<Option<Wrong<'_>>, AllocError>) -> bool {
+    match came {
+        Ok(it) => it.is_none(),
+        Err(_) => false,
+    }
+}
+
 // ## What is answered
 
 // What came of putting a text behind a byte: where memory was refused a part of it may stand there.
@@ -187,6 +269,25 @@ fn puts_updates(alloc: Global, counts: Counts) -> Came {
     let mut out = b"=".to_vec(alloc).ok()?;
     let came = put_updates_answer(&mut out, 0, 3, counts, "");
     put(&out, came, "# r0 answered 3 updates 1 0 2 0 0 0 0 0\n")
+}
+
+// An update whose operation is one of one's own, of these bytes, or any other.
+fn puts_update(alloc: Global, op: Op, text: &str) -> Came {
+    let update = Update {
+        id: IDS[0],
+        object: 9,
+        op,
+    };
+    let mut out = b"=".to_vec(alloc).ok()?;
+    let came = put_update_answer(&mut out, 7, &update, "u");
+    put(&out, came, text)
+}
+
+fn puts_update_of_bytes(alloc: Global, bytes: &[u8], text: &str) -> Came {
+    match own_op(alloc, bytes) {
+        Ok(op) => puts_update(alloc, op, text),
+        Err(_) => None,
+    }
 }
 
 fn puts_waiting(alloc: Global) -> Came {
@@ -263,7 +364,7 @@ fn puts_alone(alloc: Global) -> Came {
 }
 
 fn reads(alloc: Global) -> Came {
-    Some(asks_all(alloc)? && takes_all(alloc)? && waits_all(alloc)?)
+    Some(asks_all(alloc)? && takes_all(alloc)? && waits_all(alloc)? && all_wrong(alloc)?)
 }
 
 fn puts(alloc: Global) -> Came {
@@ -276,6 +377,22 @@ fn puts(alloc: Global) -> Came {
                 puts_tags(alloc, &[], "# r7 answered 65535 tags @a-7\n")
             )?
             && again!(alloc, puts_updates(alloc, counts))?
+            && again!(
+                alloc,
+                puts_update(alloc, Op::Inc(5), "# r7 update 0.12 9 inc 5 @u\n")
+            )?
+            && again!(
+                alloc,
+                puts_update_of_bytes(alloc, &[], "# r7 update 0.12 9 own - @u\n")
+            )?
+            && again!(
+                alloc,
+                puts_update_of_bytes(
+                    alloc,
+                    &[0, 255, 16, 1, 128],
+                    "# r7 update 0.12 9 own 00ff100180 @u\n"
+                )
+            )?
             && again!(alloc, puts_waiting(alloc))?
             && again!(alloc, puts_status(alloc, counts))?
             && again!(alloc, puts_alone(alloc))?,

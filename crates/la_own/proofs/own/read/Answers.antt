@@ -7,7 +7,8 @@ use Rattle.la_own.proofs.own.read.Goals as goal
 
 pub returns-then-told-gt-OWN_BYTES : goal.returns-then-told-gt-OWN_BYTES
 returns-then-told-gt-OWN_BYTES c =
-    sym (reads-none c.args.tags.now (λ few same. omega (arith, few, c.told_length-told.ensures, c.if-told-gt-OWN_BYTES.true)))
+    sym
+    (reads-none c.args.tags.now (λ few same. omega (arith, few, c.told_length-told.ensures, c.if-told-gt-OWN_BYTES.true)))
 
 pub returns-then-not-are_tags_of : goal.returns-then-not-are_tags_of
 returns-then-not-are_tags_of c =
