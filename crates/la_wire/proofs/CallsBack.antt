@@ -145,7 +145,7 @@ module _ (r o : ℕ) (small_r : r ≤ u8_max) (small_o : o ≤ u16_max) where
   put-values x few = rw (nr, no, number-decimal 0 u64_max x (omega arith) few (omega arith)) refl
 
   mark-values : values (form_places form.Mark) (submitted (op_words op.Mark)) no_values ≡ Some
-  (record no_values { replica = r; object = o })
+      (record no_values { replica = r; object = o })
   mark-values = rw (nr, no) refl
 
   remove-values : (ids : List UpdateId) → tag_words (map id_text ids) ≡ Some ids
