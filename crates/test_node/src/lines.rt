@@ -215,12 +215,32 @@ const LONGER: [(&str, Want); 5] = [
     ),
 ];
 
-const FAULTS: [(&str, LineFault); 80] = [
+const FAULTS: [(&str, LineFault); 91] = [
     ("", LineFault::BadLine),
     ("tock", LineFault::BadLine),
     ("tick ", LineFault::BadLine),
     ("deliver 3", LineFault::BadLine),
     ("submit 0 1 vote 3", LineFault::BadLine),
+    ("submit 0 9 own", LineFault::BadLine),
+    ("submit 0 9 own ", LineFault::BadNumber),
+    ("submit 0 9 own 0", LineFault::BadNumber),
+    ("submit 0 9 own 0g", LineFault::BadNumber),
+    ("submit 0 9 own 00 00", LineFault::BadLine),
+    ("submit 0 9  own 00", LineFault::BadLine),
+    ("submit 256 9 own 00", LineFault::BadNumber),
+    ("submit 0 65536 own 00", LineFault::BadNumber),
+    (
+        "tell 3 0 1 0 5 has 0 view 0 base 0;0.1 9 own",
+        LineFault::BadLine,
+    ),
+    (
+        "tell 3 0 1 0 5 has 0 view 0 base 0;0.1 9 own 0",
+        LineFault::BadNumber,
+    ),
+    (
+        "tell 3 0 1 0 5 has 0 view 0 base 0;0.1 9 own - -",
+        LineFault::BadLine,
+    ),
     ("submit 0 1 inc 4294967296", LineFault::BadNumber),
     ("submit 0 1 inc 5;0.1 1 inc 5", LineFault::BadLine),
     ("yes", LineFault::BadLine),

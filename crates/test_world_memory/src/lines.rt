@@ -5,9 +5,11 @@ use std::alloc::Global;
 use test_memory::{Came, again, refused};
 
 // With more tags than lie in an operation, one with a delta, and one with counts alone.
-const LINES: [&str; 3] = [
+const LINES: [&str; 5] = [
     "submit 0 3 remove 0.1 0.2 0.3",
     "tell 3 0 1 0 5 has 0,2 view 1 base 1;0.2 3 put 4;0.3 3 remove 0.1 0.2 0.3",
+    "submit 7 65535 own 00ff10018000",
+    "tell 3 0 1 0 5 has 0,2 view 1 base 1;0.2 9 own -;0.3 9 own 0a0b0c0d0e",
     "known 3 1 0 has 0,2 view 1,0,0,0,0,0,0,5",
 ];
 

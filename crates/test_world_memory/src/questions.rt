@@ -34,7 +34,10 @@ const QUESTIONS: [(&str, Option<Question>); 20] = [
         "update 7 255.4294967295",
         Some(Question::Update {
             replica: 7,
-            id: IDS[1],
+            id: UpdateId {
+                replica: 255,
+                number: 4294967295,
+            },
         }),
     ),
     ("update 7 255.0", None),

@@ -40,6 +40,8 @@ pub fn by_two_nodes<B: Absorbs, N: Replicated>(
     number: u16,
     query: &B::Query,
 ) -> Result<(B::Answer, B::Answer), ShelfError>
+where
+    B::Answer: Drop,
     requires first { IsSubset first.old.view one.now.replica.view }
     requires second { IsSubset second.old.view other.now.replica.view }
     requires kind { kind_at first.old.objects number ≡ kind_at second.old.objects number }
