@@ -44,8 +44,7 @@ behind_one os o part left is = rw is (by_rest (each_word object_in left))
 behind_unfit : (os : List (ℕ × Kind)) (left : List (List ℕ)) → are_for_a_shelf os ≡ false → behind os left ≡ None
 behind_unfit os left unfit = by_rest (each_word object_in left)
   where
-    by_test : (more : List (ℕ × Kind)) (b : Bool) → are_for_a_shelf (os ++ more) ≡ b
-        → cond b (Some (os ++ more)) None ≡ None
+    by_test : (more : List (ℕ × Kind)) (b : Bool) → are_for_a_shelf (os ++ more) ≡ b → cond b (Some (os ++ more)) None ≡ None
     by_test more true is = absurd (true≢false (sym (front_for_a_shelf os more is) ∙ unfit))
     by_test more false is = refl
 
@@ -71,36 +70,7 @@ module _ {S : Type 0} (steps : S → Option (Bor (List ℕ)) → S → Type 0) (
 
   -- the part that comes next is the first of those that are left
   next_part : (it then : S) (x : Bor (List ℕ)) (os : List (ℕ × Kind)) → ReadsOn it os → steps it (Some x) then
-     
-         
-             
-                 
-                     
-                         
-                             
-                                 
-                                     
-                                         
-                                             
-                                                 
-                                                     
-                                                         
-                                                             
-                                                                 
-                                                                     
-                                                                         
-                                                                             
-                                                                                 
-                                                                                     
-                                                                                         
-                                                                                             
-                                                                                                 
-                                                                                                     
-                                                                                                         
-                                                                                                             
-                                                                                                                 
-                                                                                                                     
-                                                                                                                          → (left : List (List ℕ)) × AlwaysYields steps (λ x. x.now) then left × (objects_in text ≡ behind os (x.now ∷ left))
+      → (left : List (List ℕ)) × AlwaysYields steps (λ x. x.now) then left × (objects_in text ≡ behind os (x.now ∷ left))
   next_part it then x os r step = go r.left r.yields r.said
     where
       go : (left : List (List ℕ)) → AlwaysYields steps (λ x. x.now) it left → objects_in text ≡ behind os left

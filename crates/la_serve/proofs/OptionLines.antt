@@ -391,8 +391,7 @@ module _ (words : List Text) (faultless : level_fault shape [] nothing_held word
       (drop 6 rules) start refl refl) faultless in
       let objects = level_reads objects_rule shape [] words false [] objects_alone
       (defaults_there objects_rule (codes "1=counter,2=max,3=set") []
-      (replicas_rule ∷ own_rule ∷ commits_rule ∷ cap_rule ∷ tick_rule ∷ compact_rule ∷ []) (drop 7 rules) start refl
-      refl)
+      (replicas_rule ∷ own_rule ∷ commits_rule ∷ cap_rule ∷ tick_rule ∷ compact_rule ∷ []) (drop 7 rules) start refl refl)
       faultless in
       let journal_option = level_reads journal_rule shape [] words false [] journal_alone
       (given_there (codes "journal") rows (not_false _ both_given.1)) faultless in

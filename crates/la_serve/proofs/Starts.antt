@@ -58,8 +58,7 @@ nothing_within s u is =
 
 -- ## What a crash leaves, in other words, with what was told before
 
-module _ (Told Told2 : List (List ℕ) → Type 0) (told : (ts : List (List ℕ)) → Told ts → Told2 ts)
-(Left Left2 : (turns last : List Turn) → Type 0)
+module _ (Told Told2 : List (List ℕ) → Type 0) (told : (ts : List (List ℕ)) → Told ts → Told2 ts) (Left Left2 : (turns last : List Turn) → Type 0)
     (to : (turns last : List Turn) → Left turns last → Left2 turns last) (before after : Io)
     (objects : List (ℕ × Kind)) where
   abbrev till : Io
@@ -278,17 +277,13 @@ module _ {D R W E : Type 0} (f : Facts D R W E) (objects : List (ℕ × Kind)) (
     not_played (cause.Misplaced line) same is = bad line (cause.Misplaced line) same is.0 is refl
     not_played (cause.Refused line node.Memory) same is = inl not
     not_played (cause.Refused line node.Elsewhere) same is =
-        bad line (cause.Refused line node.Elsewhere) same
-        (for_memory node.Elsewhere led (λ m. false≢true (ap is_memory m)) is.0) is refl
+        bad line (cause.Refused line node.Elsewhere) same (for_memory node.Elsewhere led (λ m. false≢true (ap is_memory m)) is.0) is refl
     not_played (cause.Refused line node.Unkept) same is =
-        bad line (cause.Refused line node.Unkept) same
-        (for_memory node.Unkept led (λ m. false≢true (ap is_memory m)) is.0) is refl
+        bad line (cause.Refused line node.Unkept) same (for_memory node.Unkept led (λ m. false≢true (ap is_memory m)) is.0) is refl
     not_played (cause.Refused line (node.Replica e)) same is =
-        bad line (cause.Refused line (node.Replica e)) same
-        (for_memory (node.Replica e) led (λ m. false≢true (ap is_memory m)) is.0) is refl
+        bad line (cause.Refused line (node.Replica e)) same (for_memory (node.Replica e) led (λ m. false≢true (ap is_memory m)) is.0) is refl
     not_played (cause.Refused line (node.Proposal e)) same is =
-        bad line (cause.Refused line (node.Proposal e)) same
-        (for_memory (node.Proposal e) led (λ m. false≢true (ap is_memory m)) is.0) is refl
+        bad line (cause.Refused line (node.Proposal e)) same (for_memory (node.Proposal e) led (λ m. false≢true (ap is_memory m)) is.0) is refl
     not_played (cause.Damaged line) same is = bad line (cause.Damaged line) same is.0 is refl
 
 -- a disk's fault comes only where it failed

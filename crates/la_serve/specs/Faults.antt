@@ -24,8 +24,7 @@ space_count (b ∷ bytes) = if b == 32 then suc (space_count bytes) else space_c
 -- which option a head says behind so many spaces, where the group has so many replicas
 abbrev pub option_at : (spaces replicas : ℕ) → NodeOption
 option_at spaces replicas =
-    if nat_lt spaces 2 then Version else if nat_lt spaces 4 then Own else if nat_lt spaces 6 then Replicas else if
-    nat_lt spaces (replicas + 7) then Votes else if nat_lt spaces (replicas + 9) then Commits else Cap
+    if nat_lt spaces 2 then Version else if nat_lt spaces 4 then Own else if nat_lt spaces 6 then Replicas else if nat_lt spaces (replicas + 7) then Votes else if nat_lt spaces (replicas + 9) then Commits else Cap
 
 -- where the disk failed at a start, which writes anew what was found
 abbrev pub start_fault : (found : ℕ) → NodeFault

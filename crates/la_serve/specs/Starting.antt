@@ -141,8 +141,7 @@ pub record IsUnplayable (options : Options) (file : List ℕ) (told : NodeFault)
   pub why : Unplayed NodeError
   pub is : IsNotPlayed IsForMemory node_head named_node call_line step (at_start options.config options.own) 0 0 file
       why
-  pub told_as : told ≡ of_journal (node_head (at_start options.config options.own)) options.config.replicas
-  (length file)
+  pub told_as : told ≡ of_journal (node_head (at_start options.config options.own)) options.config.replicas (length file)
       why
 
 abbrev pub IsServerStartRefusal : {D R W E : Type 0} → Facts D R W E → (objects : List (ℕ × Kind)) → Options
@@ -175,8 +174,7 @@ abbrev pub Starts : {D R W E T : Type 0} (seen : D → List ℕ) (may_leave : D 
     (contents : W → Option (List ℕ))
     (heard : E → Option (List ℕ)) (refuses : E → List ℕ → E → Type 0)
     → ShelfState → Options → (disk : D) → (old new : Streams R W E) → Result T NodeFault → (final : D) → Type 0
-Starts seen may_leave moment left_since faults remaining contents heard refuses shelf options disk old new served
-final =
+Starts seen may_leave moment left_since faults remaining contents heard refuses shelf options disk old new served final =
     let f = facts seen may_leave moment left_since remaining contents heard refuses in
     OnOk served (RunsAll f shelf.objects options disk final old new)
     × IfErr served (λ why.

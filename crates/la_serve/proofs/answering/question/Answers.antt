@@ -14,8 +14,7 @@ returns-then-not-is_own-clause-ok g c =
 pub returns-clause-ok : goal.returns-clause-ok
 returns-clause-ok g c =
     question_said Appends c.args.asking.number c.args.asking.line.now c.args.question _ _ c.said_to-said.result refl
-    refl (sym c.is_own.ensures ∙ c.if-not-is_own.false) _ c.own-own.ensures _ c.requires.asked.name
-    c.in_ok-put.ensures.ok
+    refl (sym c.is_own.ensures ∙ c.if-not-is_own.false) _ c.own-own.ensures _ c.requires.asked.name c.in_ok-put.ensures.ok
     c.said_to-said.ensures.said
 
 pub returns-in_err-put-clause-err : goal.returns-in_err-put-clause-err

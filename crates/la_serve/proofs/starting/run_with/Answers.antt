@@ -36,8 +36,7 @@ returns-in-Err-default g c =
     IsServerStartRefusal f c.in-Ok.shelf.objects c.args.options.now c.args.disk c.start.result.1 old new w
     × IfDisk w (g.D.Disk.faults c.args.disk < g.D.Disk.faults c.start.result.1))) c.in-Err-default.is-0
     c.start.ensures.1 in
-    let stops : IsServerStartRefusal f c.args.options.now.objects c.args.options.now c.args.disk c.start.result.1 old
-    new why =
+    let stops : IsServerStartRefusal f c.args.options.now.objects c.args.options.now c.args.disk c.start.result.1 old new why =
     subst (λ objects. IsServerStartRefusal f objects c.args.options.now c.args.disk c.start.result.1 old new why)
     c.in-Ok.ensures.1 both.0 in
     inr (record {

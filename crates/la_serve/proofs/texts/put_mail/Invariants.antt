@@ -6,6 +6,5 @@ use Rattle.la_serve.proofs.texts.put_mail.Given as goal
 abbrev pub invariant-loop-message : goal.invariant-loop-message
 invariant-loop-message l = record {
   within : l.message-index ≤ length l.mail;
-  so_far : l.out.items ≡ l.initial.out.items ++ letters_text
-      (letters_of l.links l.node.replica (take l.message-index l.mail));
+  so_far : l.out.items ≡ l.initial.out.items ++ letters_text (letters_of l.links l.node.replica (take l.message-index l.mail));
 }

@@ -31,8 +31,7 @@ invariant_of-self c =
     ∙ (let known : c.self.inside.len ≤ length c.self.inside.rows = omega (arith, rows, fits) in
     grind (arith, common_steps)) in
     let room : c.self.inside.len + 1 ≤ 64 = omega (arith, c.len.ensures.len, c.if-len-eq-ROOM.false, long, fits) in
-    let taken : take (c.self.inside.len + 1)
-    (slice_set c.self.inside.rows c.self.inside.len (c.args.number, c.args.kind))
+    let taken : take (c.self.inside.len + 1) (slice_set c.self.inside.rows c.self.inside.len (c.args.number, c.args.kind))
     ≡ c.args.self.now ++ (c.args.number, c.args.kind) ∷ [] =
     take_more_set c.self.inside.rows c.self.inside.len (c.args.number, c.args.kind) (omega (arith, rows, room))
     ∙ ap (λ os. os ++ (c.args.number, c.args.kind) ∷ []) c.self.view_is in
@@ -42,5 +41,4 @@ pub returns-clause-fits : goal.returns-clause-fits
 returns-clause-fits c =
     let new : is_none (kind_at c.args.self.now c.args.number) ≡ true = search rules in
     let own : have_own_numbers c.args.self.now ≡ true = search rules in
-    sym
-    (one_fits c.args.self.now c.args.number c.args.kind (omega (arith, c.len.ensures, c.if-len-eq-ROOM.false)) own new)
+    sym (one_fits c.args.self.now c.args.number c.args.kind (omega (arith, c.len.ensures, c.if-len-eq-ROOM.false)) own new)
