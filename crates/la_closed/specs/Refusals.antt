@@ -5,6 +5,6 @@ use Rattle.la_object.specs.declared.state.State.{State}
 use Rattle.la_object.specs.Objects.{HasRoom}
 
 -- no room, and else memory may run out
-abbrev pub IsUpdateRefusal : State → Refusal → Type 0
-IsUpdateRefusal state Full = ¬ HasRoom state
-IsUpdateRefusal state Memory = HasRoom state
+abbrev pub IsClosedRefusal : State → Refusal → Type 0
+IsClosedRefusal state Full = ¬ HasRoom state
+IsClosedRefusal state Memory = HasRoom state

@@ -1,6 +1,6 @@
 ghost use Rattle.std.specs.Prelude.{◌≡◌, IfErr, OnOk, OnErr};
 ghost use Rattle.la_object.specs.Objects.{after, HasRoom};
-ghost use Rattle.la_closed.specs.Refusals.{IsUpdateRefusal};
+ghost use Rattle.la_closed.specs.Refusals.{IsClosedRefusal};
 
 use la_object::{Answer, Kind, Query, Replicated, State};
 use la_set::Update;
@@ -53,7 +53,7 @@ impl<T: Replicated> Absorbs for Closed<T> {
     fn absorb(&mut self, update: &Update) -> Result<(), Refusal>
         ensures ok { OnOk result (T.state self.new.object ≡ after (T.state self.old.object) update.now) }
         ensures room { OnOk result (HasRoom (T.state self.old.object)) }
-        ensures error { IfErr result (IsUpdateRefusal (T.state self.old.object)) }
+        ensures error { IfErr result (IsClosedRefusal (T.state self.old.object)) }
         ensures err { OnErr result (T.state self.new.object ≡ T.state self.old.object) }
     {
         if !self.object.has_room() {

@@ -3,6 +3,7 @@
 //! for word.
 #![tactic(auto)]
 
+pub mod counters;
 pub mod notes;
 pub mod shelves;
 pub mod statuses;
