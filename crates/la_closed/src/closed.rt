@@ -12,8 +12,10 @@ use std::alloc::AllocError;
 /// of other types.
 ///
 /// It is asked and answers as it does on a [closed shelf](la_object::Shelf), by the same definition.
-/// An open shelf does not tell which tags an object observes, so that an observed-remove set from
-/// which elements are removed belongs on a closed one.
+/// An update is refused as [`Full`](Refusal::Full) exactly where the object has no room: where one of
+/// a counter's sums is above 2^62, which is more than the updates of a view come to. An open shelf
+/// does not tell which tags an object observes, so that an observed-remove set from which elements
+/// are removed belongs on a closed one.
 #[derive(Drop)]
 pub struct Closed<T: Replicated> {
     object: T,
@@ -48,8 +50,6 @@ impl<T: Replicated> Absorbs for Closed<T> {
         self.object.fresh()
     }
 
-    // `Full` comes exactly where the object has no room for one more update: where one of a
-    // counter's sums is above 2^62, which the updates of no view reach.
     fn absorb(&mut self, update: &Update) -> Result<(), Refusal>
         ensures ok { OnOk result (T.state self.new.object ≡ after (T.state self.old.object) update.now) }
         ensures room { OnOk result (HasRoom (T.state self.old.object)) }

@@ -1,5 +1,5 @@
--- What a shelf keeps where its objects absorb the first so many of a run of one replica's updates: beside what each shelf of
--- objects of one's own keeps, the small numbers, and so room.
+-- What a shelf keeps where its objects absorb the first so many of a run of one replica's updates: beside what each
+-- shelf of objects of one's own keeps, the small numbers, and so room.
 use Rattle.std.proofs.Common.{◌≡◌, ℕ, ◌+◌, ◌≤◌, List, [], ◌∷◌, length, take, drop, fold, ap, sym, ◌∙◌, subst, arith}
 use Rattle.std.specs.List.{All}
 use Rattle.la_set.specs.declared.update.Update.{Update}

@@ -1,4 +1,5 @@
 // la_object: shelves as tables, and a test's own objects.
+mod closed;
 mod edges;
 pub mod helpers;
 mod ids;

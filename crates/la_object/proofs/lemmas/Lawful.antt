@@ -1,4 +1,5 @@
--- The kinds here are lawful as those of a shelf of objects of one's own, so that what holds of each such shelf holds here.
+-- The kinds here are lawful as those of a shelf of objects of one's own, so that what holds of each such shelf holds
+-- here.
 use Rattle.std.proofs.Common.{◌≡◌, ℕ, refl, ap}
 use Rattle.la_set.specs.declared.update.UpdateId.{UpdateId}
 use Rattle.la_set.specs.Histories.{Histories}

@@ -1,4 +1,5 @@
--- What a shelf's objects have beside those of one's own: they observe tags, answer some queries in place, and have room.
+-- What a shelf's objects have beside those of one's own: they observe tags, answer some queries in place, and have
+-- room.
 use Rattle.std.proofs.Common.{◌≡◌, ℕ, ◌+◌, ◌≤◌, ◌==◌, nat_eq, Bool, false, List, [], ◌∷◌, ◌++◌, length, take, fold, Some, ap, sym, ◌∙◌, subst, arith}
 use Rattle.std.specs.List.{All, slice_get}
 use Rattle.std.specs.Map.{lookup}
