@@ -4,6 +4,7 @@
 #![tactic(auto)]
 
 pub mod flags;
+pub mod maps;
 pub mod notes;
 pub mod own;
 pub mod registers;
