@@ -1,3 +1,6 @@
 mod CountBytes
 mod FlagBytes
 mod WriteBytes
+mod FiniteMaps
+mod KeyedCopies
+mod KeyedBytes

@@ -10,3 +10,7 @@ pub mod Refusals
 pub mod Registers
 pub mod WriteLaws
 pub mod RegisterLaws
+pub mod Keyed
+pub mod KeyOrder
+pub mod WriteMaps
+pub mod WriteMapLaws

@@ -1,9 +1,14 @@
 -- When a call is refused, and how: by cases over the error.
-use Rattle.std.specs.Prelude.{ℕ, ◌<◌, ◌≤◌, List, length}
+use Rattle.std.specs.Prelude.{ℕ, ◌+◌, ◌<◌, ◌≤◌, List, length}
 use Rattle.la_own.specs.declared.error.OwnError.{OwnError}
 use Rattle.la_own.specs.declared.error.OwnError.TheVariants.{TooLong, Memory}
 use Rattle.la_types.specs.declared.write.TheConstants.{REGISTER_BYTES}
+use Rattle.la_types.specs.declared.write_map.TheConstants.{KEYED_BYTES}
 
 abbrev pub IsWriteRefusal : List ℕ → OwnError → Type 0
 IsWriteRefusal value TooLong = REGISTER_BYTES < length value
 IsWriteRefusal value Memory = length value ≤ REGISTER_BYTES
+
+abbrev pub IsKeyedRefusal : List ℕ → List ℕ → OwnError → Type 0
+IsKeyedRefusal key value TooLong = KEYED_BYTES < length key + length value
+IsKeyedRefusal key value Memory = length key + length value ≤ KEYED_BYTES

@@ -7,11 +7,15 @@
 mod bytes;
 mod data;
 mod flag;
+mod keyed;
 pub mod laws;
 mod register;
 mod write;
+mod write_map;
 
 pub use data::Bytes;
 pub use flag::{Flag, FlagOp, FlagState};
+pub use keyed::KeyedWrites;
 pub use register::Register;
 pub use write::{REGISTER_BYTES, Write, write_op};
+pub use write_map::{KEYED_BYTES, WriteMap, keyed_op};

@@ -37,7 +37,7 @@ impl Write {
     }
 
     // Whether it comes before a write with this stamp and id.
-    fn is_before(&self, stamp: u64, id: UpdateId) -> bool
+    pub(crate) fn is_before(&self, stamp: u64, id: UpdateId) -> bool
         ensures { result ≡ is_before self.now.stamp self.now.id stamp id }
     {
         self.stamp < stamp || (self.stamp == stamp && self.id < id)

@@ -5,6 +5,7 @@
 
 pub mod counters;
 pub mod flags;
+pub mod maps;
 pub mod notes;
 pub mod own;
 pub mod registers;
