@@ -10,7 +10,7 @@ use Rattle.std.specs.FinMap as map
 use Rattle.la_set.specs.declared.update.UpdateId.{UpdateId}
 use Rattle.la_set.specs.declared.update.Op.{Op}
 use Rattle.la_set.specs.declared.update.Update.{Update}
-use Rattle.la_own.specs.Own.{own, bytes_of}
+use Rattle.la_own.specs.Own.{own, own_bytes_of}
 use Rattle.la_types.specs.declared.write.Write.{Write}
 use Rattle.la_types.specs.Writes.{precedes, later}
 
@@ -70,7 +70,7 @@ keyed_read id bytes =
 
 -- what an update with this operation writes, and under which key, where it is such a write
 unfoldable pub keyed_of : UpdateId → Op → Option Keyed
-keyed_of id op = option_and_then (keyed_read id) (bytes_of op)
+keyed_of id op = option_and_then (keyed_read id) (own_bytes_of op)
 
 -- what updates write under a key
 abbrev pub writes_under : List ℕ → List Update → List Write

@@ -3,7 +3,7 @@ use Rattle.std.proofs.Common.{◌≡◌, ◌≢◌, Some, None, refl, ap, sym, �
 use Rattle.la_set.specs.declared.update.Update.{Update}
 use Rattle.la_shelf.specs.Meanings.{IsLawful}
 use Rattle.la_types.specs.declared.write.Write.{Write}
-use Rattle.la_types.specs.Writes.{value_of, write_of}
+use Rattle.la_types.specs.Writes.{value_written, write_of}
 use Rattle.la_types.specs.Registers.{register_meaning, writes}
 use Rattle.la_types.specs.WriteLaws.{write_swap, write_of-id, fold_writes, last_is}
 
@@ -17,5 +17,5 @@ register_lawful = record {
   commutes = λ s u v ne. write_swap s (write_of u.id u.op) (write_of v.id v.op) (differ u v ne);
   keeps = λ s u. refl;
   starts = λ kind. refl;
-  means = λ kind us question order. ap value_of (fold_writes (λ u. write_of u.id u.op) None us ∙ last_is (writes us));
+  means = λ kind us question order. ap value_written (fold_writes (λ u. write_of u.id u.op) None us ∙ last_is (writes us));
 }

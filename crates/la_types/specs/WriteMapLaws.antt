@@ -10,10 +10,10 @@ use Rattle.std.proofs.lemmas.Option.{same_Some, none-some}
 use Rattle.la_set.specs.declared.update.UpdateId.{UpdateId}
 use Rattle.la_set.specs.declared.update.Op.{Op}
 use Rattle.la_set.specs.declared.update.Update.{Update}
-use Rattle.la_own.specs.Own.{bytes_of}
+use Rattle.la_own.specs.Own.{own_bytes_of}
 use Rattle.la_shelf.specs.Meanings.{IsLawful}
 use Rattle.la_types.specs.declared.write.Write.{Write}
-use Rattle.la_types.specs.Writes.{with_write, value_of}
+use Rattle.la_types.specs.Writes.{with_write, value_written}
 use Rattle.la_types.specs.WriteLaws.{write_swap, fold_writes, last_is}
 use Rattle.la_types.specs.Keyed.{KeyedWrites, Keyed, with_keyed, or_later, write_under, keyed_read, keyed_of, writes_under}
 use Rattle.la_types.specs.KeyOrder.{key_total, key_tied}
@@ -64,7 +64,7 @@ some_id id (Some bytes) k e = read_id id bytes _ k e
 
 keyed_of-id : (id : UpdateId) (op : Op) (k : Keyed) → keyed_of id op ≡ Some k → k.1.id ≡ id
 unfolding keyed_of
-keyed_of-id id op k e = some_id id (bytes_of op) k e
+keyed_of-id id op k e = some_id id (own_bytes_of op) k e
 
 under_id : (q : List ℕ) (u : Update) (x : Write) → write_under q (keyed_of u.id u.op) ≡ Some x → x.id ≡ u.id
 under_id q u x e = under_some q (keyed_of u.id u.op) x e (λ w. w.id ≡ u.id) (keyed_of-id u.id u.op)
@@ -97,7 +97,7 @@ write_map_lawful = record {
   commutes = swap;
   keeps = λ m u. refl;
   starts = λ kind. refl;
-  means = λ kind us q order. ap value_of (under_end q map.empty us
+  means = λ kind us q order. ap value_written (under_end q map.empty us
       ∙ ap (λ s. fold (λ t v. with_write t (write_under q (keyed_of v.id v.op))) s us) (map.get-empty (slice_cmp nat_cmp) q)
       ∙ fold_writes (λ u. write_under q (keyed_of u.id u.op)) None us ∙ last_is (writes_under q us));
 }

@@ -32,8 +32,8 @@ with_write last None = last
 with_write None (Some write) = Some write
 with_write (Some last) (Some write) = Some (later last write)
 
-abbrev pub value_of : Option Write → Option (List ℕ)
-value_of last = option_map (λ (write : Write). write.value) last
+abbrev pub value_written : Option Write → Option (List ℕ)
+value_written last = option_map (λ (write : Write). write.value) last
 
 -- ## Operations
 
