@@ -1,5 +1,6 @@
 -- How a node ends, and what is told of that.
-use Rattle.std.specs.Prelude.{◌≡◌, ◌⊎◌, ℕ, ◌<◌, List, [], ◌∷◌, ◌++◌, codes, Option}
+use Rattle.std.specs.Prelude.{◌≡◌, ◌⊎◌, ℕ, ◌<◌, ◌==◌, Bool, List, [], ◌∷◌, ◌++◌, codes, Option, if◌then◌else◌}
+use Rattle.std.specs.String.{string_bytes}
 use Rattle.std.specs.Fmt.{decimal}
 use Rattle.std.specs.declared.io.ErrorKind.{ErrorKind}
 use Rattle.std.specs.declared.io.ErrorKind.TheVariants as kind
@@ -52,9 +53,18 @@ end_detail (fault.OtherOptions option) = codes ": " ++ option_name option
 end_detail (fault.StartFault found) = codes ": needs " ++ (decimal found ++ codes " bytes")
 end_detail _ = []
 
--- the line that tells it
+-- the line that tells it, where there is no memory for a folder, or the fault is none of a folder's
 abbrev pub end_line : NodeFault → List ℕ
 end_line f = end_name f ++ (end_detail f ++ 10 ∷ [])
+
+-- a fault of the journal, or of its disk
+abbrev pub is_of_folder : NodeFault → Bool
+is_of_folder f = node_status f == 5
+
+-- the line that tells it of this folder
+abbrev pub end_line_at : (folder : List ℕ) → NodeFault → List ℕ
+end_line_at folder f =
+    if is_of_folder f then end_name f ++ (codes ": " ++ (folder ++ (end_detail f ++ 10 ∷ []))) else end_line f
 
 -- why a folder can't be opened
 abbrev pub cause_name : ErrorKind → List ℕ
@@ -96,7 +106,9 @@ pub record EndsBadly {D R W E : Type 0} (f : Facts D R W E) (faults : D → ℕ)
   pub stops : IsServerStartRefusal f options.objects options disk final old (record new { errors = between }) why
   -- a fault of the disk comes only where it failed
   pub failed : IfDisk why (faults disk < faults final)
-  pub told : TellsLine f.heard f.refuses between new.errors (end_line why)
+  -- with the folder, where there is memory for that
+  pub told : TellsLine f.heard f.refuses between new.errors (end_line_at (string_bytes options.folder) why)
+      ⊎ TellsLine f.heard f.refuses between new.errors (end_line why)
 
 -- with this status, where the disk is this in the end
 abbrev pub ServerEnds : {D R W E : Type 0} (seen : D → List ℕ) (may_leave : D → List ℕ → Type 0) (moment : D → ℕ)

@@ -37,4 +37,4 @@ pub use options::{Options, command};
 pub use output::Output;
 pub use server::Server;
 pub use serving::serve;
-pub use starting::{end_with, end_without_journal, run};
+pub use starting::{end_at, end_with, end_without_journal, run};

@@ -1,9 +1,10 @@
-ghost use Rattle.std.specs.Prelude.{◌≡◌, ◌⊎◌, ◌≤◌, take, IfOk};
+ghost use Rattle.std.specs.Prelude.{◌≡◌, ◌⊎◌, ◌≤◌, take, true, string_bytes, IfOk};
 ghost use Rattle.la_set.specs.Histories.{empty};
 ghost use Rattle.la_object.specs.Objects.{start};
 ghost use Rattle.la_io.specs.Streams.{TellsLine, TellsAll};
 ghost use Rattle.la_serve.specs.Faults.{of_journal, start_fault, space_count, option_at};
-ghost use Rattle.la_serve.specs.Ending.{node_status, end_line, end_detail, no_journal_line, no_journal_short, ServerEnds};
+ghost use Rattle.la_serve.specs.Ending.{node_status, end_line, end_line_at, end_detail, is_of_folder};
+ghost use Rattle.la_serve.specs.Ending.{no_journal_line, no_journal_short, ServerEnds};
 ghost use Rattle.la_serve.specs.Io.{io};
 ghost use Rattle.la_serve.specs.Starting.{Starts, torn_told, unsaid_told};
 
@@ -50,6 +51,39 @@ pub fn end_with<E: Listener>(fault: NodeFault, errors: &mut E) -> u8
     let line = end_line(fault);
     let _ = tell_all(errors, line.as_str().as_bytes());
     status_of(fault)
+}
+
+/// The exit status after a fault, which is told; a fault of the journal or its disk with the folder, where there is memory
+/// for that.
+pub fn end_at<E: Listener>(alloc: Global, fault: NodeFault, folder: &str, errors: &mut E) -> u8
+    ensures status { result ≡ node_status fault }
+    ensures told { TellsLine E.contents E.refuses errors.old errors.new (end_line_at folder.now fault)
+        ⊎ TellsLine E.contents E.refuses errors.old errors.new (end_line fault) }
+{
+    if status_of(fault) != 5 {
+        return end_with(fault, errors);
+    }
+    match folder_line(alloc, fault, folder) {
+        Ok(line) => {
+            let _ = tell_all(errors, &line);
+            status_of(fault)
+        }
+        Err(_) => end_with(fault, errors),
+    }
+}
+
+// The line that tells of a fault of this folder.
+fn folder_line(alloc: Global, fault: NodeFault, folder: &str) -> Result<Vec<u8>, AllocError>
+    requires { is_of_folder fault ≡ true }
+    ensures { IfOk result (λ line. line.items ≡ end_line_at folder.now fault) }
+{
+    let mut line = Vec::new(alloc);
+    line.extend_from_slice(end_name(fault).as_bytes())?;
+    line.extend_from_slice(b": ")?;
+    line.extend_from_slice(folder.as_bytes())?;
+    line.extend_from_slice(end_detail(fault).as_str().as_bytes())?;
+    line.push(b'\n')?;
+    Ok(line)
 }
 
 // The line that tells of a fault.
@@ -305,22 +339,30 @@ fn run_with<
         options.now disk (io input.old out.old errors.old) (io input.new out.new errors.new) result }
 {
     let Ok(shelf) = shelf_of(alloc, &options.objects, make) else {
-        return ended(NodeFault::Memory, disk, errors);
+        return ended(alloc, options, NodeFault::Memory, disk, errors);
     };
     match start(alloc, options, shelf, found, disk, input, out, errors) {
         (Ok(()), disk) => Ended { status: 0, disk },
-        (Err(fault), disk) => ended(fault, disk, errors),
+        (Err(fault), disk) => ended(alloc, options, fault, disk, errors),
     }
 }
 
 // The end by a fault, which is told.
-fn ended<E: Listener, D: Drop>(fault: NodeFault, disk: D, errors: &mut E) -> Ended<D>
+fn ended<E: Listener, D: Drop>(
+    alloc: Global,
+    options: &Options,
+    fault: NodeFault,
+    disk: D,
+    errors: &mut E,
+) -> Ended<D>
     ensures status { result.status ≡ node_status fault }
     ensures disk { result.disk ≡ disk }
-    ensures told { TellsLine E.contents E.refuses errors.old errors.new (end_line fault) }
+    ensures told { TellsLine E.contents E.refuses errors.old errors.new
+        (end_line_at (string_bytes options.now.folder) fault)
+        ⊎ TellsLine E.contents E.refuses errors.old errors.new (end_line fault) }
 {
     Ended {
-        status: end_with(fault, errors),
+        status: end_at(alloc, fault, options.folder.as_str(), errors),
         disk,
     }
 }

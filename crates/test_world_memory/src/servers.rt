@@ -396,9 +396,11 @@ fn is_memory(output: &[u8], told: &[u8]) -> bool {
     output.is_empty() && told == b"Memory\n".as_slice()
 }
 
-// The same of a disk in memory that found none, at a start on that journal.
+// The same of a disk in memory that found none, at a start on that journal; without the folder where there was no memory
+// for that.
 fn is_disk(output: &[u8], told: &[u8]) -> bool {
-    output.is_empty() && told == b"DiskFault: needs 197 bytes\n".as_slice()
+    let whole = b"DiskFault: /f: needs 197 bytes\n".as_slice();
+    output.is_empty() && (told == whole || told == b"DiskFault: needs 197 bytes\n".as_slice())
 }
 
 // A question to a node that starts on its journal.
@@ -409,7 +411,7 @@ fn runs(alloc: Global) -> Came {
         tick: 0,
         compact: 0,
         objects: Objects::read("1=counter,2=max,3=set")?,
-        folder: String::new(alloc),
+        folder: String::from_str(alloc, "/f").ok()?,
     };
     let disk = disk_of(alloc, ROUND.as_bytes())?;
     let Ok(found) = disk.bytes().to_vec(alloc) else {

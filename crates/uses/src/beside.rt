@@ -42,8 +42,7 @@ pub fn by_two_nodes<B: Absorbs, N: Replicated>(
 ) -> Result<(B::Answer, B::Answer), ShelfError>
 where
     B::Answer: Drop,
-    requires first { IsSubset first.old.view one.now.replica.view }
-    requires second { IsSubset second.old.view other.now.replica.view }
+    requires within { IsSubset first.old.view one.now.replica.view × IsSubset second.old.view other.now.replica.view }
     requires kind { kind_at first.old.objects number ≡ kind_at second.old.objects number }
     ensures { one.now.replica.view ≡ other.now.replica.view
         → IfOk result (λ answers. answers.0 ≡ answers.1) }
