@@ -15,7 +15,7 @@ use la_object::{Kind, Shelf};
 use la_orset::OrSet;
 use la_proposer::Votes;
 use la_serve::{
-    NodeFault, Objects, Options, Output, Server, command, end_without_journal, run, serve,
+    NodeFault, Objects, Options, Output, Server, command, end_at, end_without_journal, run, serve,
 };
 use la_set::UpdateSet;
 use la_wire::Tally;
@@ -561,6 +561,28 @@ fn unopened(alloc: Global) -> Came {
     }
 }
 
+// A journal that can't be played: its folder is told where there is memory for that.
+fn unplayed(alloc: Global) -> Came {
+    let mut told = Told {
+        bytes: room(alloc)?,
+    };
+    let status = end_at(alloc, NodeFault::BadJournal(7), "/f", &mut told);
+    match (status, told.bytes.as_slice()) {
+        (5, b"BadJournal: /f: line 7\n") => Some(true),
+        (5, b"BadJournal: line 7\n") => refused(true),
+        _ => Some(false),
+    }
+}
+
+// A fault that is none of the folder's.
+fn ends_elsewhere(alloc: Global) -> Came {
+    let mut told = Told {
+        bytes: room(alloc)?,
+    };
+    let status = end_at(alloc, NodeFault::ReadFault, "/f", &mut told);
+    Some(status == 4 && told.bytes.as_slice() == b"ReadFault\n".as_slice())
+}
+
 fn calls(alloc: Global) -> Came {
     let words = words_of(alloc, &WORDS)?;
     let help = words_of(alloc, &HELP)?;
@@ -570,7 +592,9 @@ fn calls(alloc: Global) -> Came {
             && again!(alloc, helps(alloc, &help))?
             && again!(alloc, mistakes(alloc, &mistake))?
             && again!(alloc, runs(alloc))?
-            && again!(alloc, unopened(alloc))?,
+            && again!(alloc, unopened(alloc))?
+            && again!(alloc, unplayed(alloc))?
+            && again!(alloc, ends_elsewhere(alloc))?,
     )
 }
 
