@@ -4,7 +4,7 @@ use la_wire::{Call, LineError, named, numbered_in, put_letter, read, read_bounde
 use std::alloc::Global;
 use test_memory::{Came, again, refused};
 
-// With more tags than lie in an operation, one with a delta, and one with counts alone.
+// With more tags than lie in an operation, with bytes of one's own, with a delta, and with counts alone.
 const LINES: [&str; 5] = [
     "submit 0 3 remove 0.1 0.2 0.3",
     "tell 3 0 1 0 5 has 0,2 view 1 base 1;0.2 3 put 4;0.3 3 remove 0.1 0.2 0.3",
@@ -104,13 +104,12 @@ fn scenes_of(alloc: Global, text: &str) -> Came {
 }
 
 fn scenes(alloc: Global) -> Came {
-    let [first, second, third] = LINES;
-    Some(
-        scenes_of(alloc, first)?
-            && scenes_of(alloc, second)?
-            && scenes_of(alloc, third)?
-            && parts_all(alloc)?,
-    )
+    for line in LINES {
+        if !scenes_of(alloc, line)? {
+            return Some(false);
+        }
+    }
+    parts_all(alloc)
 }
 
 #[test]
