@@ -44,8 +44,8 @@ is_numbered request =
 -- written twice, it does no more than once: a question, a proposal, or a submission under a number
 abbrev pub may_repeat : List ℕ → Bool
 may_repeat request =
-    is_first_word (codes "ask") request || (is_first_word (codes "status") request
-    || (is_first_word (codes "decide") request || is_numbered request))
+    is_first_word (codes "ask") request || (is_first_word (codes "update") request
+    || (is_first_word (codes "status") request || (is_first_word (codes "decide") request || is_numbered request)))
 
 -- ## TakesAnswer
 

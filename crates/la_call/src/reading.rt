@@ -35,9 +35,9 @@ The answer is the first line that begins with `#` and ends in ` @NAME`, but for 
 which the request is to be written again. It is printed on standard output; where the request was written
 there, on standard error.
 
-At a time-out the request is written again, if it is `ask`, `status`, `decide` or `submit R.K`, and was
-not so often; else the call ends. The next time-out takes twice as long, up to a minute, and each line
-that comes, another's too, begins anew. A line `tick` that is read is a time-out too.
+At a time-out the request is written again, if it is `ask`, `update`, `status`, `decide` or `submit R.K`,
+and was not so often; else the call ends. The next time-out takes twice as long, up to a minute, and
+each line that comes, another's too, begins anew. A line `tick` that is read is a time-out too.
 
 --out is opened before --in, and a fifo is open once another process has its other end.
 

@@ -133,7 +133,7 @@ fn comes<R: Abort>(rt: &R, alloc: Global, row: &Row) -> bool {
         && told.bytes.as_slice() == row.told
 }
 
-const ROWS: [Row; 13] = [
+const ROWS: [Row; 14] = [
     // answered; what stands behind is read and lost
     Row {
         words: &["--name", "a", "submit", "0", "1", "inc", "5"],
@@ -217,6 +217,14 @@ const ROWS: [Row; 13] = [
         input: b"# r0 waiting 1.2 @a\ntick\n# r0 waiting 1.2 @a\ntick\n# r0 answered 1 total 5 @a\n",
         sent: b"ask 0 1 total at 1.2 @a\nask 0 1 total at 1.2 @a\nask 0 1 total at 1.2 @a\n",
         said: b"# r0 answered 1 total 5 @a\n",
+        told: b"",
+        status: 0,
+    },
+    Row {
+        words: &["--name", "a", "--wait", "1", "update", "0", "1.2"],
+        input: b"# r0 waiting 1.2 @a\ntick\n# r0 update 1.2 9 own 0a @a\n",
+        sent: b"update 0 1.2 @a\nupdate 0 1.2 @a\n",
+        said: b"# r0 update 1.2 9 own 0a @a\n",
         told: b"",
         status: 0,
     },

@@ -84,6 +84,7 @@ pub(crate) fn may_repeat(request: &[u8]) -> bool
     ensures { result ≡ may_repeat request.now }
 {
     begins_with(b"ask", request)
+        || begins_with(b"update", request)
         || begins_with(b"status", request)
         || begins_with(b"decide", request)
         || is_numbered(request)
