@@ -180,11 +180,12 @@ fn has_state(register: &Register) -> Came {
 
 // ## A map
 
-fn put_at(alloc: Global, stamp: u64, key: &[u8], value: &[u8]) -> Option<Update> {
-    let Ok(op) = keyed_op(alloc, stamp, key, value) else {
+// A put whose stamp is its number.
+fn put_at(alloc: Global, number: u32, key: &[u8], value: &[u8]) -> Option<Update> {
+    let Ok(op) = keyed_op(alloc, u64::from(number), key, value) else {
         return None;
     };
-    Some(update(2, stamp as u32, op))
+    Some(update(2, number, op))
 }
 
 fn absorb_put(map: &mut WriteMap, put: &Update) -> Came {
