@@ -5,6 +5,7 @@
 
 pub mod flags;
 pub mod maps;
+pub mod multis;
 pub mod notes;
 pub mod own;
 pub mod registers;
