@@ -1,19 +1,21 @@
 -- The bytes of an operation of one's own, and of no other.
-use Rattle.std.proofs.Common.{◌≡◌, ℕ, ◌≤◌, Bool, true, false, cond, List, Some, None, Option, IfSome, IfNone, refl, ap, sym, ◌∙◌, subst, arith}
+use Rattle.std.proofs.Common.{◌≡◌, ℕ, ◌≤◌, Bool, true, false, cond, List, Some, None, Option, IfSome, IfNone, refl}
+use Rattle.std.proofs.Common.{ap, sym, ◌∙◌, subst, arith}
 use Rattle.std.proofs.lemmas.Bool.{and_parts, and_from, leb-true, le-leb}
 use Rattle.std.proofs.lemmas.Option.{same_Some, none-some}
 use Rattle.la_set.specs.declared.update.UpdateId.{UpdateId}
 use Rattle.la_set.specs.declared.update.Op.{Op}
 use Rattle.la_set.specs.declared.update.Op.TheVariants.{Inc, Dec, Raise, Put, Remove, Mark, Vote}
 use Rattle.la_own.specs.declared.own.TheConstants.{OWN_BYTES}
-use Rattle.la_own.specs.Own.{AreOwnBytes, own, own_tags, bytes_in, told_length, are_own_tags, bytes_of, IsOwn}
+use Rattle.la_own.specs.Own.{AreOwnBytes, own, own_tags, told_bytes, told_length, are_own_tags, bytes_of, IsOwn}
 use Rattle.la_own.proofs.Tags.{tags_eq-Decides}
 use Rattle.la_own.proofs.Words.{told_back, bytes_back, bytes_in-small}
 
 own_test : (bytes : List ℕ) → AreOwnBytes bytes → are_own_tags (own_tags bytes) ≡ true
 own_test bytes own =
     and_from _ _ (le-leb (told_length (own_tags bytes)) OWN_BYTES (omega (arith, told_back bytes own, own.few)))
-    ((tags_eq-Decides (own_tags bytes) (own_tags (bytes_in (own_tags bytes)))).1 (ap own_tags (sym (bytes_back bytes own))))
+    ((tags_eq-Decides (own_tags bytes) (own_tags (told_bytes (own_tags bytes)))).1 (ap own_tags (sym
+    (bytes_back bytes own))))
 
 pub bytes_of-own : (bytes : List ℕ) → AreOwnBytes bytes → bytes_of (own bytes) ≡ Some bytes
 unfolding own bytes_of
@@ -28,17 +30,17 @@ module _ (tags : List UpdateId) (test : are_own_tags tags ≡ true) where
   few : told_length tags ≤ OWN_BYTES
   few = leb-true _ _ (and_parts _ _ test).0
 
-  pub told-are_own : AreOwnBytes (bytes_in tags)
+  pub told-are_own : AreOwnBytes (told_bytes tags)
   told-are_own = bytes_in-small tags few
 
-  pub told-own : tags ≡ own_tags (bytes_in tags)
-  told-own = (tags_eq-Decides tags (own_tags (bytes_in tags))).0 (and_parts _ _ test).1
+  pub told-own : tags ≡ own_tags (told_bytes tags)
+  told-own = (tags_eq-Decides tags (own_tags (told_bytes tags))).0 (and_parts _ _ test).1
 
 made : (tags : List UpdateId) (b : Bool) → are_own_tags tags ≡ b → (bytes : List ℕ)
-    → cond b (Some (bytes_in tags)) None ≡ Some bytes → AreOwnBytes bytes × (Remove tags ≡ own bytes)
+    → cond b (Some (told_bytes tags)) None ≡ Some bytes → AreOwnBytes bytes × (Remove tags ≡ own bytes)
 unfolding own
 made tags true test bytes is =
-    let same : bytes_in tags ≡ bytes = same_Some _ _ is in
+    let same : told_bytes tags ≡ bytes = same_Some _ _ is in
     (subst AreOwnBytes same (told-are_own tags test), ap Remove (told-own tags test ∙ ap own_tags same))
 made tags false test bytes is = absurd (none-some bytes is)
 
@@ -54,11 +56,12 @@ bytes_of-made (Vote x s) bytes is = absurd (none-some bytes is)
 
 -- ## By cases of the code
 
-pub reads-some : (tags : List UpdateId) → told_length tags ≤ OWN_BYTES → tags ≡ own_tags (bytes_in tags)
-    → bytes_of (Remove tags) ≡ Some (bytes_in tags)
+pub reads-some : (tags : List UpdateId) → told_length tags ≤ OWN_BYTES → tags ≡ own_tags (told_bytes tags)
+    → bytes_of (Remove tags) ≡ Some (told_bytes tags)
 unfolding bytes_of
 reads-some tags few same =
-    rw (and_from _ _ (le-leb (told_length tags) OWN_BYTES few) ((tags_eq-Decides tags (own_tags (bytes_in tags))).1 same)) refl
+    rw (and_from _ _ (le-leb (told_length tags) OWN_BYTES few) ((tags_eq-Decides tags (own_tags
+    (told_bytes tags))).1 same)) refl
 
 -- where the test fails
 reads : (tags : List UpdateId) (b : Bool) → are_own_tags tags ≡ b → (are_own_tags tags ≡ true → ⊥)
@@ -67,7 +70,7 @@ unfolding bytes_of
 reads tags true is never = absurd (never is)
 reads tags false is never = rw is refl
 
-pub reads-none : (tags : List UpdateId) → (told_length tags ≤ OWN_BYTES → tags ≡ own_tags (bytes_in tags) → ⊥)
+pub reads-none : (tags : List UpdateId) → (told_length tags ≤ OWN_BYTES → tags ≡ own_tags (told_bytes tags) → ⊥)
     → bytes_of (Remove tags) ≡ None
 reads-none tags never = reads tags (are_own_tags tags) refl (λ test. never (few tags test) (told-own tags test))
 

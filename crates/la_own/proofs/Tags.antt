@@ -1,10 +1,12 @@
 -- Tags: put last, compared, and those of one's own told from others.
-use Rattle.std.proofs.Common.{◌≡◌, ℕ, zero, suc, ◌+◌, ◌<◌, ◌≤◌, true, false, List, [], ◌∷◌, ◌++◌, length, filter, map, get_or, All, Contains, refl, ap, sym, ◌∙◌, inl, inr, arith, add-one}
+use Rattle.std.proofs.Common.{◌≡◌, ℕ, zero, suc, ◌+◌, ◌<◌, ◌≤◌, true, false, List, [], ◌∷◌, ◌++◌, length, filter, map}
+use Rattle.std.proofs.Common.{get_or, All, Contains, refl, ap, sym, ◌∙◌, inl, inr, arith, add-one}
 use Rattle.std.specs.Bool.{Decides}
 use Rattle.std.specs.List.{range_with_len}
 use Rattle.std.specs.Cmp.Lexicographic.{pointwise}
 use Rattle.std.proofs.lemmas.Bool.{eq-eqb, eqb-true, and_parts, and_from}
-use Rattle.std.proofs.lemmas.List.FromFn.{fill_by_all, get_or-map-range_with_len, length-map-range_with_len, map-range_with_len_more}
+use Rattle.std.proofs.lemmas.List.FromFn.{fill_by_all, get_or-map-range_with_len, length-map-range_with_len}
+use Rattle.std.proofs.lemmas.List.FromFn.{map-range_with_len_more}
 use Rattle.std.proofs.lemmas.List.Elements.{All-head, All-tail, All-contains}
 use Rattle.std.proofs.lemmas.Slice.Eq.{slice_eq-Decides}
 use Rattle.la_set.specs.declared.update.UpdateId.{UpdateId}
@@ -21,13 +23,15 @@ below_test x y below = elim below [
 ]
 
 module _ (tag : UpdateId) where
-  all_below : (ids : List UpdateId) → All (λ other. IsBelow other tag) ids → filter (λ other. id_below other tag) ids ≡ ids
+  all_below : (ids : List UpdateId) → All (λ other. IsBelow other tag) ids
+      → filter (λ other. id_below other tag) ids ≡ ids
   all_below [] all = refl
   all_below (x ∷ ids) all =
       rw (below_test x tag (All-head (λ other. IsBelow other tag) x ids all)).0
       (ap (λ rest. x ∷ rest) (all_below ids (All-tail (λ other. IsBelow other tag) x ids all)))
 
-  none_above : (ids : List UpdateId) → All (λ other. IsBelow other tag) ids → filter (λ other. id_below tag other) ids ≡ []
+  none_above : (ids : List UpdateId) → All (λ other. IsBelow other tag) ids
+      → filter (λ other. id_below tag other) ids ≡ []
   none_above [] all = refl
   none_above (x ∷ ids) all =
       rw (below_test x tag (All-head (λ other. IsBelow other tag) x ids all)).1
@@ -41,7 +45,8 @@ module _ (tag : UpdateId) where
 id_eq-Decides : (x y : UpdateId) → Decides (id_eq x y) (x ≡ y)
 id_eq-Decides x y = (
   λ t. let p = and_parts _ _ t in λ i. record { replica = eqb-true x.replica y.replica p.0 i; number = eqb-true x.number y.number p.1 i },
-  λ e. and_from _ _ (eq-eqb x.replica y.replica (ap (λ w. w.replica) e)) (eq-eqb x.number y.number (ap (λ w. w.number) e)),
+  λ e. and_from _ _ (eq-eqb x.replica y.replica (ap (λ w. w.replica) e)) (eq-eqb x.number y.number (ap
+      (λ w. w.number) e)),
 )
 
 pub tags_eq-Decides : (xs ys : List UpdateId) → Decides (pointwise id_eq xs ys) (xs ≡ ys)
@@ -54,7 +59,8 @@ pub same_by_places : (bytes : List ℕ) (tags : List UpdateId) → length tags �
     → tags ≡ own_tags bytes
 same_by_places bytes [] long first rest = absurd (omega arith)
 same_by_places bytes (tag ∷ tags) long first rest = λ i.
-    first i ∷ fill_by_all (word_tag bytes) tags (word_count bytes) no_tag (omega arith) (λ k lt. ap (λ j. get_or (tag ∷ tags) j no_tag) (sym (add-one k)) ∙ rest k lt) i
+    first i ∷ fill_by_all (word_tag bytes) tags (word_count bytes) no_tag (omega arith) (λ k lt. ap (λ j. get_or
+    (tag ∷ tags) j no_tag) (sym (add-one k)) ∙ rest k lt) i
 
 pub own_tags-length : (bytes : List ℕ) → length (own_tags bytes) ≡ word_count bytes + 1
 own_tags-length bytes = omega (arith, length-map-range_with_len (word_tag bytes) 0 (word_count bytes))
@@ -69,14 +75,23 @@ own_tags-at bytes place lt =
 pub own_tags-high : (bytes : List ℕ) → All (λ tag. 8 ≤ tag.replica) (own_tags bytes)
 own_tags-high bytes zero d lt = omega arith
 own_tags-high bytes (suc k) d lt =
-    let within : k < word_count bytes = omega (arith, length-map-range_with_len (word_tag bytes) 0 (word_count bytes)) in
-    omega (arith, ap (λ t. t.replica) (get_or-map-range_with_len (word_tag bytes) 0 (word_count bytes) k k d within (omega arith)))
+    let within : k < word_count bytes = omega (
+      arith,
+      length-map-range_with_len (word_tag bytes) 0
+          (word_count bytes),
+    ) in
+    omega (
+      arith,
+      ap (λ t. t.replica) (get_or-map-range_with_len (word_tag bytes) 0 (word_count bytes) k k d within
+          (omega arith)),
+    )
 
 -- the tags of so many words, and of one more, which is above them
 module _ (bytes : List ℕ) (count : ℕ) where
   pub tags_more : length_tag bytes ∷ map (word_tag bytes) (range_with_len 0 (count + 1))
       ≡ (length_tag bytes ∷ map (word_tag bytes) (range_with_len 0 count)) ++ word_tag bytes count ∷ []
-  tags_more = ap (λ tags. length_tag bytes ∷ tags) (map-range_with_len_more (word_tag bytes) 0 count count (omega arith))
+  tags_more =
+      ap (λ tags. length_tag bytes ∷ tags) (map-range_with_len_more (word_tag bytes) 0 count count (omega arith))
 
 -- what all tags are below is none of them
 pub not_among : (tag : UpdateId) (ids : List UpdateId) → All (λ other. IsBelow other tag) ids → Contains ids tag → ⊥

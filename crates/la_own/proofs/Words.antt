@@ -1,5 +1,6 @@
 -- What is written into tags is read back.
-use Rattle.std.proofs.Common.{◌≡◌, ℕ, zero, suc, ◌+◌, ◌*◌, ◌/◌, ◌%◌, ◌<◌, ◌≤◌, List, [], ◌∷◌, length, drop, map, get_or, All, refl, ap, sym, ◌∙◌, subst, inl, inr, arith}
+use Rattle.std.proofs.Common.{◌≡◌, ℕ, zero, suc, ◌+◌, ◌*◌, ◌/◌, ◌%◌, ◌<◌, ◌≤◌, List, [], ◌∷◌, length, drop, map}
+use Rattle.std.proofs.Common.{get_or, All, refl, ap, sym, ◌∙◌, subst, inl, inr, arith}
 use Rattle.std.specs.Int.{w32, to_le_bytes}
 use Rattle.std.specs.List.{range_with_len}
 use Rattle.std.proofs.lemmas.Bool.{cases_lt}
@@ -8,7 +9,8 @@ use Rattle.std.proofs.lemmas.List.FromFn.{fill_by_all, get_or-map-range_with_len
 use Rattle.std.proofs.lemmas.Nat.{le_bytes_4}
 use Rattle.la_set.specs.declared.update.UpdateId.{UpdateId}
 use Rattle.la_set.specs.Ids.{IsBelow}
-use Rattle.la_own.specs.Own.{AreOwnBytes, word_at, length_tag, word_tag, own_tags, no_tag, word_of, byte_at, told_length, bytes_in}
+use Rattle.la_own.specs.Own.{AreOwnBytes, word_at, length_tag, word_tag, own_tags, no_tag, word_of, byte_at}
+use Rattle.la_own.specs.Own.{told_length, told_bytes}
 use Rattle.la_own.specs.declared.own.TheConstants.{OWN_BYTES}
 use Rattle.la_own.proofs.Tags.{own_tags-at}
 
@@ -24,7 +26,8 @@ module _ (bytes : List ℕ) (small : All (λ byte. byte < 256) bytes) where
 
   -- the four bytes of a word
   four : ℕ → List ℕ
-  four from = get_or (drop from bytes) 0 0 ∷ get_or (drop from bytes) 1 0 ∷ get_or (drop from bytes) 2 0 ∷ get_or (drop from bytes) 3 0 ∷ []
+  four from = get_or (drop from bytes) 0 0 ∷ get_or (drop from bytes) 1 0 ∷ get_or (drop from bytes) 2 0
+      ∷ get_or (drop from bytes) 3 0 ∷ []
 
   four_small : (from k : ℕ) → get_or (four from) k 0 < 256
   unfolding four
@@ -40,7 +43,14 @@ module _ (bytes : List ℕ) (small : All (λ byte. byte < 256) bytes) where
 
   word_small : (place : ℕ) → word_at bytes place < 4294967296
   word_small place =
-      omega (arith, byte_behind (4 * place) 0, byte_behind (4 * place) 1, byte_behind (4 * place) 2, byte_behind (4 * place) 3)
+      omega (
+        arith,
+        byte_behind (4 * place) 0,
+        byte_behind (4 * place) 1,
+        byte_behind (4 * place) 2,
+        byte_behind
+            (4 * place) 3,
+      )
 
   four_at : (from k : ℕ) → k < 4 → get_or (four from) k 0 ≡ get_or (drop from bytes) k 0
   unfolding four
@@ -58,7 +68,8 @@ module _ (bytes : List ℕ) (own : AreOwnBytes bytes) where
   read_back : (k : ℕ) → k < length bytes → get_or bytes k 0 ≡ byte_at (own_tags bytes) k
   read_back k lt =
       let place = k / 4 in
-      let tag : get_or (own_tags bytes) (k / 4 + 1) no_tag ≡ word_tag bytes place = own_tags-at bytes place (omega arith) in
+      let tag : get_or (own_tags bytes) (k / 4 + 1) no_tag
+      ≡ word_tag bytes place = own_tags-at bytes place (omega arith) in
       let word : word_of (get_or (own_tags bytes) (k / 4 + 1) no_tag) ≡ word_at bytes place =
       ap word_of tag ∙ word_back place (word_at bytes place) (word_small bytes own.small place) in
       let at : 4 * place + k % 4 ≡ k = omega arith in
@@ -72,7 +83,7 @@ module _ (bytes : List ℕ) (own : AreOwnBytes bytes) where
   pub told_back : told_length (own_tags bytes) ≡ length bytes
   told_back = omega arith
 
-  pub bytes_back : bytes_in (own_tags bytes) ≡ bytes
+  pub bytes_back : told_bytes (own_tags bytes) ≡ bytes
   bytes_back =
       ap (λ n. map (byte_at (own_tags bytes)) (range_with_len 0 n)) told_back
       ∙ sym (fill_by_all (byte_at (own_tags bytes)) bytes (length bytes) 0 refl read_back)
@@ -99,12 +110,21 @@ byte_at-small tags place = byte_of_word (word_of (get_or tags (place / 4 + 1) no
     byte_of_word w (suc (suc (suc zero))) lt = omega arith
     byte_of_word w (suc (suc (suc (suc k)))) lt = absurd (omega arith)
 
-pub bytes_in-small : (tags : List UpdateId) → told_length tags ≤ OWN_BYTES → AreOwnBytes (bytes_in tags)
+pub bytes_in-small : (tags : List UpdateId) → told_length tags ≤ OWN_BYTES → AreOwnBytes (told_bytes tags)
 bytes_in-small tags few = record {
   few = omega (arith, length-map-range_with_len (byte_at tags) 0 (told_length tags));
   small = λ k d lt.
-      let within : k < told_length tags = omega (arith, length-map-range_with_len (byte_at tags) 0 (told_length tags)) in
-      omega (arith, byte_at-small tags k, get_or-map-range_with_len (byte_at tags) 0 (told_length tags) k k d within (omega arith));
+      let within : k < told_length tags = omega (
+        arith,
+        length-map-range_with_len (byte_at tags) 0
+            (told_length tags),
+      ) in
+      omega (
+        arith,
+        byte_at-small tags k,
+        get_or-map-range_with_len (byte_at tags) 0 (told_length tags) k k d within
+            (omega arith),
+      );
 }
 
 -- what fits a byte each

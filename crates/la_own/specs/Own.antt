@@ -1,6 +1,7 @@
 -- An operation of one's own: up to 248 bytes, written as the tags of a Remove. Replicas are 0 to 7,
 -- so a tag of replica 8 or more names no update, and its replica and number can carry something else.
-use Rattle.std.specs.Prelude.{◌≡◌, ℕ, ◌+◌, ◌-◌, ◌*◌, ◌/◌, ◌%◌, ◌<◌, ◌≤◌, nat_le, Bool, ◌&&◌, List, ◌∷◌, length, drop, map, All, Option, Some, None, if◌then◌else◌, slice_index, slice_index_or}
+use Rattle.std.specs.Prelude.{◌≡◌, ℕ, ◌+◌, ◌-◌, ◌*◌, ◌/◌, ◌%◌, ◌<◌, ◌≤◌, nat_le, Bool, ◌&&◌, List, ◌∷◌, length, drop}
+use Rattle.std.specs.Prelude.{map, All, Option, Some, None, if◌then◌else◌, slice_index, slice_index_or}
 use Rattle.std.specs.Cmp.Lexicographic.{pointwise}
 use Rattle.std.specs.List.{range_with_len}
 use Rattle.std.specs.Int.{w32, to_le_bytes, from_le_bytes}
@@ -66,14 +67,14 @@ byte_at tags place =
 abbrev pub told_length : List UpdateId → ℕ
 told_length tags = (slice_index_or tags 0 no_tag).number - 1
 
-abbrev pub bytes_in : List UpdateId → List ℕ
-bytes_in tags = map (byte_at tags) (range_with_len 0 (told_length tags))
+abbrev pub told_bytes : List UpdateId → List ℕ
+told_bytes tags = map (byte_at tags) (range_with_len 0 (told_length tags))
 
 -- the tags are those of the bytes that they carry
 abbrev pub are_own_tags : List UpdateId → Bool
-are_own_tags tags = nat_le (told_length tags) OWN_BYTES && pointwise id_eq tags (own_tags (bytes_in tags))
+are_own_tags tags = nat_le (told_length tags) OWN_BYTES && pointwise id_eq tags (own_tags (told_bytes tags))
 
 -- the bytes of an operation, where it is one of one's own
 unfoldable pub bytes_of : Op → Option (List ℕ)
-bytes_of (Remove tags) = if are_own_tags tags then Some (bytes_in tags) else None
+bytes_of (Remove tags) = if are_own_tags tags then Some (told_bytes tags) else None
 bytes_of _ = None

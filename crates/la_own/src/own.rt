@@ -5,7 +5,8 @@ ghost use Rattle.std.specs.List.{range_with_len};
 ghost use Rattle.la_set.specs.declared.update.Op.TheVariants.{Remove};
 ghost use Rattle.la_set.specs.Ids.{IsBelow};
 ghost use Rattle.la_own.specs.Own.{AreOwnBytes, IsOwn, own, own_tags, word_count, word_at};
-ghost use Rattle.la_own.specs.Own.{length_tag, word_tag, word_of, byte_at, bytes_of, no_tag, told_length};
+ghost use Rattle.la_own.specs.Own.{length_tag, word_tag, word_of, byte_at, bytes_of, no_tag};
+ghost use Rattle.la_own.specs.Own.{told_length};
 ghost use Rattle.la_own.specs.Refusals.{IsOwnRefusal};
 ghost use Rattle.la_own.specs.declared.error.OwnError.TheVariants.{Memory};
 

@@ -1,6 +1,8 @@
 -- A write that says what was seen comes back from what was submitted, and what other operations are
 -- read as.
-use Rattle.std.proofs.Common.{◌≡◌, ℕ, suc, zero, ◌+◌, ◌<◌, ◌≤◌, Bool, cond, List, [], ◌∷◌, ◌++◌, length, drop, get_or, replicate, Option, Some, None, Result, Ok, Err, IsOk, IfOk, refl, ap, sym, ◌∙◌, arith, true≢false}
+use Rattle.std.proofs.Common.{◌≡◌, ℕ, suc, zero, ◌+◌, ◌<◌, ◌≤◌, Bool, cond, List, [], ◌∷◌, ◌++◌, length, drop, get_or}
+use Rattle.std.proofs.Common.{replicate, Option, Some, None, Result, Ok, Err, IsOk, IfOk, refl, ap, sym, ◌∙◌, arith}
+use Rattle.std.proofs.Common.{true≢false}
 use Rattle.std.specs.Bool.{Decides}
 use Rattle.std.specs.Option.{option_and_then, is_some, option_eq}
 use Rattle.std.specs.List.{filter_map, cons_option, range_with_len}
@@ -35,16 +37,19 @@ module _ (op : Op) where
       ap (option_and_then multi_read) (sym is)
       ∙ ap (λ b. cond b (Some (counts_in bytes, drop 32 bytes)) None) (le-leb 32 (length bytes) long)
 
-counts_behind : (seen : Counts) (value : List ℕ) → counts_in (counts_bytes seen ++ value) ≡ counts_in (counts_bytes seen)
+counts_behind : (seen : Counts) (value : List ℕ)
+    → counts_in (counts_bytes seen ++ value) ≡ counts_in (counts_bytes seen)
 unfolding from_counts
 counts_behind seen value = refl
 
 pub multi_back : ((bytes : List ℕ) → AreOwnBytes bytes → bytes_of (own bytes) ≡ Some bytes)
     → (seen : Counts) (value : List ℕ) → counts_in (counts_bytes seen) ≡ plain seen
-    → (r : Result Op OwnError) → (IsOk r → AreOwnBytes (multi_bytes seen value)) → IfOk r (λ op. op ≡ multi_op seen value)
+    → (r : Result Op OwnError) → (IsOk r → AreOwnBytes (multi_bytes seen value))
+    → IfOk r (λ op. op ≡ multi_op seen value)
     → IfOk r (λ op. multi_of op ≡ Some (plain seen, value))
 multi_back read seen value back (Ok op) own_bytes is =
-    is_multi op (multi_bytes seen value) (sym (ap bytes_of is ∙ read (multi_bytes seen value) (own_bytes refl))) (omega arith)
+    is_multi op (multi_bytes seen value) (sym (ap bytes_of is
+    ∙ read (multi_bytes seen value) (own_bytes refl))) (omega arith)
     ∙ ap (λ counts. Some (counts, value)) (counts_behind seen value ∙ back)
 multi_back read seen value back (Err e) own_bytes is = tt
 
@@ -61,7 +66,8 @@ none_there E (suc n) (None ∷ os) =
     let rest = none_there E n os in ((λ e. ap (λ all. None ∷ all) (rest.0 e)), (λ e. rest.1 (ap (drop 1) e)))
 
 pub eight_of : {X : Type 0} (xs : List X) (d : X) → length xs ≡ 8
-    → get_or xs 0 d ∷ get_or xs 1 d ∷ get_or xs 2 d ∷ get_or xs 3 d ∷ get_or xs 4 d ∷ get_or xs 5 d ∷ get_or xs 6 d ∷ get_or xs 7 d ∷ [] ≡ xs
+    → get_or xs 0 d ∷ get_or xs 1 d ∷ get_or xs 2 d ∷ get_or xs 3 d ∷ get_or xs 4 d ∷ get_or xs 5 d ∷ get_or xs 6 d
+    ∷ get_or xs 7 d ∷ [] ≡ xs
 eight_of xs d long = sym (fill_by_all (λ k. get_or xs k d) xs 8 d long (λ k lt. refl))
 
 -- ## One more

@@ -1,6 +1,7 @@
 -- A flag that is on where some enabling was not seen by any disabling: enablings win over
 -- disablings that were made at the same time.
-use Rattle.std.specs.Prelude.{ℕ, ◌==◌, Bool, true, false, not, ◌&&◌, nat_lt, List, [], ◌∷◌, length, drop, slice_index, Option, Some, None, if◌then◌else◌}
+use Rattle.std.specs.Prelude.{ℕ, ◌==◌, Bool, true, false, not, ◌&&◌, nat_lt, List, [], ◌∷◌, length, drop, slice_index}
+use Rattle.std.specs.Prelude.{Option, Some, None, if◌then◌else◌}
 use Rattle.std.specs.List.{list_any, range_with_len}
 use Rattle.std.specs.Option.{option_and_then}
 use Rattle.la_set.specs.declared.update.UpdateId.{UpdateId}
@@ -12,7 +13,7 @@ use Rattle.la_shelf.specs.Meanings.{Meaning}
 use Rattle.la_types.specs.declared.flag.FlagOp.{FlagOp}
 use Rattle.la_types.specs.declared.flag.FlagOp.TheVariants.{Enable, Disable}
 use Rattle.la_types.specs.declared.flag.FlagState.{FlagState}
-use Rattle.la_types.specs.Seen.{covers, seen_by_either, up_to, is_update_id}
+use Rattle.la_types.specs.Seen.{has_seen, seen_by_either, up_to, is_update_id}
 use Rattle.la_types.specs.Bytes.{counts_bytes, counts_in, plain}
 
 -- ## Operations
@@ -53,7 +54,7 @@ is_enabling u = is_update_id u.id && enables (flag_of u.op)
 
 -- a disabling had seen the update with this id
 abbrev pub disables : Option FlagOp → UpdateId → Bool
-disables (Some (Disable seen)) id = covers seen id
+disables (Some (Disable seen)) id = has_seen seen id
 disables _ id = false
 
 -- among updates is an enabling that no disabling of them had seen

@@ -1,5 +1,7 @@
 -- The register that keeps what was written at the same time is a lawful type.
-use Rattle.std.proofs.Common.{◌≡◌, ◌≢◌, ℕ, zero, suc, ◌<◌, ◌==◌, nat_le, nat_lt, max, Bool, true, false, not, ◌&&◌, ◌||◌, cond, List, [], ◌∷◌, length, get_or, set, replicate, fold, Option, Some, None, refl, ap, sym, ◌∙◌, inl, inr, arith}
+use Rattle.std.proofs.Common.{◌≡◌, ◌≢◌, ℕ, zero, suc, ◌<◌, ◌==◌, nat_le, nat_lt, max, Bool, true, false, not, ◌&&◌}
+use Rattle.std.proofs.Common.{◌||◌, cond, List, [], ◌∷◌, length, get_or, set, replicate, fold, Option, Some, None}
+use Rattle.std.proofs.Common.{refl, ap, sym, ◌∙◌, inl, inr, arith}
 use Rattle.std.specs.List.{list_any, filter_map, cons_option, last_or}
 use Rattle.std.proofs.lemmas.Bool.{cases_eq, cases_lt, eq-eqb, ne_eqb, lt-ltb, le-ltb, lt-leb}
 use Rattle.std.proofs.lemmas.List.{set_comm, get_or-set_same, get_or-set_other, length-set}
@@ -11,7 +13,8 @@ use Rattle.la_types.specs.declared.multi.Entry.{Entry}
 use Rattle.la_types.specs.declared.multi.MultiState.{MultiState}
 use Rattle.la_types.specs.SeenCounts.{count_in-from, either_swap}
 use Rattle.la_types.specs.Highest.{highest}
-use Rattle.la_types.specs.Multis.{Seeing, multi_of, entry_of, written_by, last_by, sees, was_seen, unseen, multi_value, multi_start, multi_step, beyond_seen, multi_reply, multi_meaning}
+use Rattle.la_types.specs.Multis.{Seeing, multi_of, entry_of, entry_by, last_by, sees, seen_by_some, unseen}
+use Rattle.la_types.specs.Multis.{multi_value, multi_start, multi_step, beyond_seen, multi_reply, multi_meaning}
 
 swap : (s : MultiState) (a b : UpdateId) (x y : Option Seeing) → a.replica ≢ b.replica
     → multi_step (multi_step s a x) b y ≡ multi_step (multi_step s b y) a x
@@ -19,7 +22,8 @@ swap s a b None None ne = refl
 swap s a b (Some x) None ne = refl
 swap s a b None (Some y) ne = refl
 swap s a b (Some x) (Some y) ne = λ i. record {
-  last = set_comm s.last a.replica b.replica (Some (record { number = a.number; value = x.1 })) (Some (record { number = b.number; value = y.1 })) ne i;
+  last = set_comm s.last a.replica b.replica (Some (record { number = a.number; value = x.1 })) (Some
+      (record { number = b.number; value = y.1 })) ne i;
   seen = either_swap s.seen x.0 y.0 i;
 }
 
@@ -47,18 +51,19 @@ last_after r s id (Some x) lt = elim (cases_eq id.replica r) [
       ∙ ap (λ b. last_or (get_or s.last r None) (cons_option (cond b entry None) [])) (sym (ne_eqb id.replica r ne))
 ]
 
-last_more : (o p : Option Entry) (xs : List Entry) → last_or (last_or o (cons_option p [])) xs ≡ last_or o (cons_option p xs)
+last_more : (o p : Option Entry) (xs : List Entry)
+    → last_or (last_or o (cons_option p [])) xs ≡ last_or o (cons_option p xs)
 last_more o None xs = refl
 last_more o (Some x) xs = refl
 
 last_end : (r : ℕ) (s : MultiState) (us : List Update) → r < length s.last
     → get_or (fold (λ t u. multi_step t u.id (multi_of u.op)) s us).last r None
-    ≡ last_or (get_or s.last r None) (filter_map (written_by r) us)
+    ≡ last_or (get_or s.last r None) (filter_map (entry_by r) us)
 last_end r s [] lt = refl
 last_end r s (u ∷ us) lt =
     last_end r (multi_step s u.id (multi_of u.op)) us (omega (arith, lt, keeps_length s u.id (multi_of u.op)))
-    ∙ ap (λ o. last_or o (filter_map (written_by r) us)) (last_after r s u.id (multi_of u.op) lt)
-    ∙ last_more (get_or s.last r None) (written_by r u) (filter_map (written_by r) us)
+    ∙ ap (λ o. last_or o (filter_map (entry_by r) us)) (last_after r s u.id (multi_of u.op) lt)
+    ∙ last_more (get_or s.last r None) (entry_by r u) (filter_map (entry_by r) us)
 
 -- ## What was seen
 
@@ -84,7 +89,11 @@ seen_end r lt s (u ∷ us) =
     seen_end r lt (multi_step s u.id (multi_of u.op)) us
     ∙ ap (λ n. highest (λ v. seen_number r (multi_of v.op)) n us) (seen_after r lt s u.id (multi_of u.op))
 
-sees_number : (r n : ℕ) (o : Option Seeing) → 0 < n → sees (record { replica = r; number = n }) o ≡ nat_le n (seen_number r o)
+sees_number : (r n : ℕ) (o : Option Seeing) → 0 < n → sees (record {
+  replica =
+      r;
+  number = n;
+}) o ≡ nat_le n (seen_number r o)
 unfolding seen_number
 sees_number r n None more = sym (lt-leb n 0 more)
 sees_number r n (Some x) more = refl
@@ -119,7 +128,7 @@ module _ (us : List Update) (r : ℕ) (lt : r < 8) where
   abbrev end : MultiState
   end = fold (λ t u. multi_step t u.id (multi_of u.op)) multi_start us
 
-  seen_is : (n : ℕ) → 0 < n → nat_le n (count_in end.seen r) ≡ was_seen us r n
+  seen_is : (n : ℕ) → 0 < n → nat_le n (count_in end.seen r) ≡ seen_by_some us r n
   seen_is n more =
       ap (nat_le n) (seen_end r lt multi_start us)
       ∙ any_highest (λ u. seen_number r (multi_of u.op)) n (count_in multi_start.seen r) us
@@ -127,15 +136,15 @@ module _ (us : List Update) (r : ℕ) (lt : r < 8) where
       (lt-leb n (count_in multi_start.seen r) (omega (arith, more, count_in-from (λ q. 0) r lt)))
       ∙ same_any _ _ us (λ u. sym (sees_number r n (multi_of u.op) more))
 
-  not_seen : (n : ℕ) → nat_lt (count_in end.seen r) n ≡ (nat_lt 0 n && not (was_seen us r n))
+  not_seen : (n : ℕ) → nat_lt (count_in end.seen r) n ≡ (nat_lt 0 n && not (seen_by_some us r n))
   not_seen n = elim (cases_lt 0 n) [
     | inl more ↦
         turned n (count_in end.seen r)
         ∙ ap not (seen_is n more)
-        ∙ ap (λ b. b && not (was_seen us r n)) (sym (lt-ltb 0 n more))
+        ∙ ap (λ b. b && not (seen_by_some us r n)) (sym (lt-ltb 0 n more))
     | inr none ↦
         le-ltb (count_in end.seen r) n (omega arith)
-        ∙ ap (λ b. b && not (was_seen us r n)) (sym (le-ltb 0 n none))
+        ∙ ap (λ b. b && not (seen_by_some us r n)) (sym (le-ltb 0 n none))
   ]
     where
       turned : (a b : ℕ) → nat_lt b a ≡ not (nat_le a b)
@@ -156,13 +165,16 @@ module _ (us : List Update) (r : ℕ) (lt : r < 8) where
   pub same_value : beyond_seen end.seen r (get_or end.last r None) ≡ unseen us r (last_by us r)
   same_value =
       ap (beyond_seen end.seen r)
-      (last_end r multi_start us lt ∙ ap (λ o. last_or o (filter_map (written_by r) us)) starts_empty)
+      (last_end r multi_start us lt ∙ ap (λ o. last_or o (filter_map (entry_by r) us)) starts_empty)
       ∙ same_entry (last_by us r)
 
-multi_means : (us : List Update) → multi_reply (fold (λ t u. multi_step t u.id (multi_of u.op)) multi_start us) ≡ multi_value us
+multi_means : (us : List Update)
+    → multi_reply (fold (λ t u. multi_step t u.id (multi_of u.op)) multi_start us) ≡ multi_value us
 multi_means us = λ i.
-    cons_option (same_value us 0 (omega arith) i) (cons_option (same_value us 1 (omega arith) i) (cons_option (same_value us 2 (omega arith) i) (cons_option (same_value us 3 (omega arith) i)
-    (cons_option (same_value us 4 (omega arith) i) (cons_option (same_value us 5 (omega arith) i) (cons_option (same_value us 6 (omega arith) i) (cons_option (same_value us 7 (omega arith) i) [])))))))
+    cons_option (same_value us 0 (omega arith) i) (cons_option (same_value us 1 (omega arith) i) (cons_option
+    (same_value us 2 (omega arith) i) (cons_option (same_value us 3 (omega arith) i)
+    (cons_option (same_value us 4 (omega arith) i) (cons_option (same_value us 5 (omega arith) i) (cons_option
+    (same_value us 6 (omega arith) i) (cons_option (same_value us 7 (omega arith) i) [])))))))
 
 pub multi_lawful : IsLawful multi_meaning
 multi_lawful = record {

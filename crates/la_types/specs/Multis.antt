@@ -1,6 +1,7 @@
--- A register of bytes that keeps what was written at the same time: a write covers what its maker
+-- A register of bytes that keeps what was written at the same time: a write has_seen what its maker
 -- had seen, and what its own replica wrote before.
-use Rattle.std.specs.Prelude.{set, ℕ, ◌==◌, nat_le, nat_lt, Bool, false, not, ◌&&◌, List, ◌++◌, length, drop, replicate, Option, Some, None, slice_index_or, if◌then◌else◌}
+use Rattle.std.specs.Prelude.{set, ℕ, ◌==◌, nat_le, nat_lt, Bool, false, not, ◌&&◌, List, ◌++◌, length, drop}
+use Rattle.std.specs.Prelude.{replicate, Option, Some, None, slice_index_or, if◌then◌else◌}
 use Rattle.std.specs.List.{list_any, filter_map, last_or, range_with_len}
 use Rattle.std.specs.Option.{option_and_then}
 use Rattle.la_set.specs.declared.update.UpdateId.{UpdateId}
@@ -12,7 +13,7 @@ use Rattle.la_own.specs.Own.{own, bytes_of}
 use Rattle.la_shelf.specs.Meanings.{Meaning}
 use Rattle.la_types.specs.declared.multi.Entry.{Entry}
 use Rattle.la_types.specs.declared.multi.MultiState.{MultiState}
-use Rattle.la_types.specs.Seen.{covers, seen_by_either}
+use Rattle.la_types.specs.Seen.{has_seen, seen_by_either}
 use Rattle.la_types.specs.Bytes.{counts_bytes, counts_in}
 
 -- ## Operations
@@ -43,26 +44,26 @@ entry_of number None = None
 entry_of number (Some seeing) = Some (record { number = number; value = seeing.1 })
 
 -- what an update writes, where it is of the replica
-abbrev pub written_by : ℕ → Update → Option Entry
-written_by r u = if u.id.replica == r then entry_of u.id.number (multi_of u.op) else None
+abbrev pub entry_by : ℕ → Update → Option Entry
+entry_by r u = if u.id.replica == r then entry_of u.id.number (multi_of u.op) else None
 
 -- what a replica wrote last among updates in the order of their ids
 abbrev pub last_by : List Update → ℕ → Option Entry
-last_by us r = last_or None (filter_map (written_by r) us)
+last_by us r = last_or None (filter_map (entry_by r) us)
 
 -- the maker of a write had seen the update with this id
 abbrev pub sees : UpdateId → Option Seeing → Bool
 sees id None = false
-sees id (Some seeing) = covers seeing.0 id
+sees id (Some seeing) = has_seen seeing.0 id
 
 -- a write among updates had seen the update of a replica with a number
-abbrev pub was_seen : List Update → ℕ → ℕ → Bool
-was_seen us r number = list_any (λ v. sees (record { replica = r; number = number }) (multi_of v.op)) us
+abbrev pub seen_by_some : List Update → ℕ → ℕ → Bool
+seen_by_some us r number = list_any (λ v. sees (record { replica = r; number = number }) (multi_of v.op)) us
 
 -- the value of what a replica wrote last, unless a write had seen it; numbers are 1 and more
 abbrev pub unseen : List Update → ℕ → Option Entry → Option (List ℕ)
 unseen us r None = None
-unseen us r (Some entry) = if nat_lt 0 entry.number && not (was_seen us r entry.number) then Some entry.value else None
+unseen us r (Some entry) = if nat_lt 0 entry.number && not (seen_by_some us r entry.number) then Some entry.value else None
 
 -- by replica, what each wrote last that no write had seen
 abbrev pub multi_value : List Update → List (List ℕ)

@@ -7,8 +7,8 @@ use Rattle.la_set.specs.declared.counts.Counts.{Counts}
 use Rattle.la_set.specs.Counts.{count_in, from_counts}
 
 -- whether the update with this id was seen
-abbrev pub covers : Counts → UpdateId → Bool
-covers seen id = nat_le id.number (count_in seen id.replica)
+abbrev pub has_seen : Counts → UpdateId → Bool
+has_seen seen id = nat_le id.number (count_in seen id.replica)
 
 -- what either saw
 abbrev pub seen_by_either : Counts → Counts → Counts

@@ -1,4 +1,5 @@
-ghost use Rattle.std.specs.Prelude.{◌≡◌, ◌↔◌, ◌++◌, [], Some, None, set, replicate, IsTrue, IfOk, IfErr, OnOk};
+ghost use Rattle.std.specs.Prelude.{◌≡◌, ◌↔◌, ◌++◌, [], Some, None, set, replicate};
+ghost use Rattle.std.specs.Prelude.{IsTrue, IfOk, IfErr, OnOk};
 ghost use Rattle.std.specs.Prelude.{slice_index_or};
 ghost use Rattle.std.specs.List.{cons_option};
 ghost use Rattle.std.specs.Option.{option_copied};
@@ -129,8 +130,8 @@ pub struct MultiState {
 /// A register of bytes that keeps what was written at the same time: a write takes the place of
 /// what its maker had seen, and of what its own replica wrote before, and of nothing else.
 ///
-/// It has no kinds, one question, `()`, and its answer is the values that no write had seen, at most
-/// one of each replica, in the order of replicas. It keeps the last write of each replica.
+/// It has no kinds, one question, `()`, and its answer is the values that no write had seen, at
+/// most one of each replica, in the order of replicas. It keeps the last write of each replica.
 #[derive(Drop)]
 pub struct MultiRegister {
     state: MultiState,
@@ -221,8 +222,8 @@ fn copy_of(entry: &Option<Entry>) -> Result<Option<Entry>, AllocError>
 
 // Puts what a replica wrote last behind other values, unless a write had seen it.
 fn put_unseen(values: &mut Vec<Bytes>, state: &MultiState, replica: u8) -> Result<(), AllocError>
-    ensures { OnOk result (values.new.items ≡ values.old.items
-        ++ cons_option (beyond_seen state.now.seen replica (slice_index_or state.now.last replica None)) []) }
+    ensures { OnOk result (values.new.items ≡ values.old.items ++ cons_option
+        (beyond_seen state.now.seen replica (slice_index_or state.now.last replica None)) []) }
 {
     if let Some(entry) = state.last.of(replica) {
         if state.seen.of(replica) < entry.number {

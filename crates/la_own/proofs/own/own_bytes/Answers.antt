@@ -9,7 +9,8 @@ returns-in_default c =
     record { value = sym none; some = tt; none = none-own c.args.op.now none }
 
 pub returns-in-Remove-clause-some : goal.returns-in-Remove-clause-some
-returns-in-Remove-clause-some c = some-own c.read.result c.args.op.now (c.read.ensures ∙ ap bytes_of (sym c.in-Remove.is))
+returns-in-Remove-clause-some c =
+    some-own c.read.result c.args.op.now (c.read.ensures ∙ ap bytes_of (sym c.in-Remove.is))
 
 pub returns-in-Remove-clause-none : goal.returns-in-Remove-clause-none
 returns-in-Remove-clause-none c =

@@ -19,7 +19,12 @@ put_last-requires-in-loop-place-clause-above c =
 
 pub put_last-requires-in-loop-place-clause-few : goal.put_last-requires-in-loop-place-clause-few
 put_last-requires-in-loop-place-clause-few c =
-    omega (arith, ap length c.loop-place.invariant, length-map-range_with_len (word_tag c.args.bytes.now) 0 c.loop-place.place)
+    omega (
+      arith,
+      ap length c.loop-place.invariant,
+      length-map-range_with_len
+          (word_tag c.args.bytes.now) 0 c.loop-place.place,
+    )
 
 pub loop-place-preserved : goal.loop-place-preserved
 loop-place-preserved c =
