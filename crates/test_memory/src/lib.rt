@@ -28,6 +28,8 @@ mod runners;
 mod sets;
 #[cfg(test)]
 mod shelves;
+#[cfg(test)]
+mod types;
 
 pub use counted::{Counted, are_alive, counting, make_counted};
 pub use given::{Came, Does, Row, delta_of, refused, second, set_of};
