@@ -1,5 +1,6 @@
 -- Finite maps that are made of entries in strict order of their keys.
-use Rattle.std.proofs.Common.{◌≡◌, Bool, true, false, ◌&&◌, cond, T, List, [], ◌∷◌, length, Option, Some, None, refl, ap, sym, ◌∙◌, subst, arith}
+use Rattle.std.proofs.Common.{◌≡◌, Bool, true, false, ◌&&◌, cond, T, List, [], ◌∷◌, length, Option, Some, None, refl}
+use Rattle.std.proofs.Common.{ap, sym, ◌∙◌, subst, arith}
 use Rattle.std.specs.List.{AllByRecursion}
 use Rattle.std.specs.List.Sorted.{IsStrictlySortedBy}
 use Rattle.std.specs.Map.{keys_of, lookup}
@@ -115,4 +116,5 @@ module _ {K X : Type 0} {R : K → K → Ordering} (o : IsTotalOrder R) where
 
     pub all_put-from_entries : (es : List (K × X)) → T (is_sorted R es) → all_put map.empty es ≡ map.from_entries es
     all_put-from_entries es h = map.same_map o tied _ _ (λ q.
-        get-all_put map.empty es q h ∙ ap (or_else (find R q es)) (map.get-empty R q) ∙ or_none _ ∙ sym (map.get-from_entries o es q))
+        get-all_put map.empty es q h ∙ ap (or_else (find R q es)) (map.get-empty R q) ∙ or_none _
+        ∙ sym (map.get-from_entries o es q))

@@ -9,7 +9,8 @@ use Rattle.la_types.proofs.FiniteMaps.{put_again, all_put as put_all}
 abbrev pub all_put : KeyedWrites → List Keyed → KeyedWrites
 all_put m es = put_all key_total key_tied m es
 
-not_last : (m : KeyedWrites) (key : List ℕ) (write : Write) (o : Option Write) → map.get m key ≡ o → is_last o write ≡ false
+not_last : (m : KeyedWrites) (key : List ℕ) (write : Write) (o : Option Write) → map.get m key ≡ o
+    → is_last o write ≡ false
     → map.insert m key (or_later o write) ≡ m
 not_last m key write None is not = absurd (true≢false not)
 not_last m key write (Some last) is not =

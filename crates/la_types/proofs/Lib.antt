@@ -4,3 +4,4 @@ mod WriteBytes
 mod FiniteMaps
 mod KeyedCopies
 mod KeyedBytes
+mod MultiBytes

@@ -1,5 +1,6 @@
 -- A write comes back from what was submitted, and what other operations are read as.
-use Rattle.std.proofs.Common.{◌≡◌, ℕ, ◌<◌, ◌≤◌, ◌^◌, cond, List, length, drop, Some, None, Result, Ok, Err, IsOk, IfOk, refl, ap, sym, ◌∙◌, arith}
+use Rattle.std.proofs.Common.{◌≡◌, ℕ, ◌<◌, ◌≤◌, ◌^◌, cond, List, length, drop, Some, None, Result, Ok, Err, IsOk}
+use Rattle.std.proofs.Common.{IfOk, refl, ap, sym, ◌∙◌, arith}
 use Rattle.std.specs.Option.{option_and_then}
 use Rattle.std.specs.Int.{w64, from_le_bytes}
 use Rattle.std.proofs.lemmas.Bool.{le-leb, lt-leb}
@@ -19,20 +20,32 @@ module _ (id : UpdateId) (op : Op) where
   unfolding write_of
   too_short bytes is short =
       ap (option_and_then (write_read id)) (sym is)
-      ∙ ap (λ b. cond b (Some (record { stamp = from_le_bytes w64 bytes; id = id; value = drop 8 bytes })) None) (lt-leb 8 (length bytes) short)
+      ∙ ap (λ b. cond b (Some (record {
+        stamp =
+            from_le_bytes w64 bytes;
+        id = id;
+        value = drop 8 bytes;
+      })) None) (lt-leb 8 (length bytes) short)
 
   pub is_write : (bytes : List ℕ) → Some bytes ≡ own_bytes_of op → 8 ≤ length bytes
       → write_of id op ≡ Some (record { stamp = from_le_bytes w64 bytes; id = id; value = drop 8 bytes })
   unfolding write_of
   is_write bytes is long =
       ap (option_and_then (write_read id)) (sym is)
-      ∙ ap (λ b. cond b (Some (record { stamp = from_le_bytes w64 bytes; id = id; value = drop 8 bytes })) None) (le-leb 8 (length bytes) long)
+      ∙ ap (λ b. cond b (Some (record {
+        stamp =
+            from_le_bytes w64 bytes;
+        id = id;
+        value = drop 8 bytes;
+      })) None) (le-leb 8 (length bytes) long)
 
 pub write_back : ((bytes : List ℕ) → AreOwnBytes bytes → own_bytes_of (own bytes) ≡ Some bytes)
     → (stamp : ℕ) (value : List ℕ) → stamp < 2 ^ 64
-    → (r : Result Op OwnError) → (IsOk r → AreOwnBytes (write_bytes stamp value)) → IfOk r (λ op. op ≡ write_op stamp value)
+    → (r : Result Op OwnError) → (IsOk r → AreOwnBytes (write_bytes stamp value))
+    → IfOk r (λ op. op ≡ write_op stamp value)
     → IfOk r (λ op. (id : UpdateId) → write_of id op ≡ Some (record { stamp = stamp; id = id; value = value }))
 write_back read stamp value fits (Ok op) own_bytes is = λ id.
-    is_write id op (write_bytes stamp value) (sym (ap own_bytes_of is ∙ read (write_bytes stamp value) (own_bytes refl))) (omega arith)
+    is_write id op (write_bytes stamp value) (sym (ap own_bytes_of is
+    ∙ read (write_bytes stamp value) (own_bytes refl))) (omega arith)
     ∙ ap (λ n. Some (record { stamp = n; id = id; value = value })) (from_le_bytes-to_le_bytes_8 stamp fits)
 write_back read stamp value fits (Err e) own_bytes is = tt

@@ -1,8 +1,10 @@
 -- A flag's state says whether some enabling was not seen by any disabling.
-use Rattle.std.proofs.Common.{◌≡◌, ℕ, ◌<◌, ◌==◌, nat_lt, max, true, false, not, ◌&&◌, cond, List, [], ◌∷◌, get_or, All, fold, Option, Some, None, refl, ap, sym, ◌∙◌, subst, inl, inr, arith}
+use Rattle.std.proofs.Common.{◌≡◌, ℕ, ◌<◌, ◌==◌, nat_lt, max, true, false, not, ◌&&◌, cond, List, [], ◌∷◌, get_or}
+use Rattle.std.proofs.Common.{All, fold, Option, Some, None, refl, ap, sym, ◌∙◌, subst, inl, inr, arith}
 use Rattle.std.specs.Bool.{Decides}
 use Rattle.std.specs.List.{Any, list_any, range_with_len}
-use Rattle.std.proofs.lemmas.Bool.{cases_eq, false≢true, eq-eqb, ne_eqb, lt-ltb, ltb-true, lt-leb, leb-false, and_parts, and_from, not-true, not_from_false}
+use Rattle.std.proofs.lemmas.Bool.{cases_eq, false≢true, eq-eqb, ne_eqb, lt-ltb, ltb-true, lt-leb, leb-false}
+use Rattle.std.proofs.lemmas.Bool.{and_parts, and_from, not-true, not_from_false}
 use Rattle.std.proofs.lemmas.Bool.Decides.{same_from_decides}
 use Rattle.std.proofs.lemmas.List.Folds.{Any-from_list_any, list_any-from_Any, list_any_none}
 use Rattle.std.proofs.lemmas.List.FromFn.{get_or-range_with_len}
@@ -22,10 +24,12 @@ pub step_swap : (s : FlagState) (a b : UpdateId) (x y : Option FlagOp)
     → flag_step (flag_step s a x) b y ≡ flag_step (flag_step s b y) a x
 step_swap s a b None y = refl
 step_swap s a b (Some x) None = refl
-step_swap s a b (Some Enable) (Some Enable) = λ i. record { enabled = either_swap s.enabled (up_to a) (up_to b) i; seen = s.seen }
+step_swap s a b (Some Enable) (Some Enable) =
+    λ i. record { enabled = either_swap s.enabled (up_to a) (up_to b) i; seen = s.seen }
 step_swap s a b (Some Enable) (Some (Disable d)) = refl
 step_swap s a b (Some (Disable c)) (Some Enable) = refl
-step_swap s a b (Some (Disable c)) (Some (Disable d)) = λ i. record { enabled = s.enabled; seen = either_swap s.seen c d i }
+step_swap s a b (Some (Disable c)) (Some (Disable d)) =
+    λ i. record { enabled = s.enabled; seen = either_swap s.seen c d i }
 
 -- ## The numbers of one replica
 
@@ -39,7 +43,8 @@ seen_number r (Some (Disable seen)) = count_in seen r
 seen_number r (Some Enable) = 0
 seen_number r None = 0
 
-either_at : (one other : Counts) (r : ℕ) → r < 8 → count_in (seen_by_either one other) r ≡ max (count_in one r) (count_in other r)
+either_at : (one other : Counts) (r : ℕ) → r < 8
+    → count_in (seen_by_either one other) r ≡ max (count_in one r) (count_in other r)
 either_at one other r lt = count_in-from (λ q. max (count_in one q) (count_in other q)) r lt
 
 no_more : (n : ℕ) → n ≡ max n 0
@@ -92,13 +97,15 @@ record IsFrom (r n : ℕ) (id : UpdateId) (does : Option FlagOp) : Type 0 where
   pub replica : id.replica ≡ r
   pub number : id.number ≡ n
 
-enabling_from : (r n : ℕ) (id : UpdateId) (does : Option FlagOp) → r < 8 → 0 < n → on_number r id does ≡ n → IsFrom r n id does
+enabling_from : (r n : ℕ) (id : UpdateId) (does : Option FlagOp) → r < 8 → 0 < n → on_number r id does ≡ n
+    → IsFrom r n id does
 unfolding on_number
 enabling_from r n id (Some Enable) lt more is = elim (cases_eq r id.replica) [
   | inl e ↦
       let number : id.number ≡ n = ap (λ b. cond b id.number 0) (sym (eq-eqb r id.replica e)) ∙ is in
       record {
-        enabling = and_from _ _ (and_from _ _ (lt-ltb id.replica 8 (omega (arith, e))) (lt-ltb 0 id.number (omega (arith, number)))) refl;
+        enabling = and_from _ _ (and_from _ _ (lt-ltb id.replica 8 (omega (arith, e))) (lt-ltb 0 id.number (omega
+            (arith, number)))) refl;
         replica = sym e;
         number = number;
       }
@@ -113,13 +120,15 @@ on_of_enabling id (Some Enable) is = ap (λ b. cond b id.number 0) (eq-eqb id.re
 on_of_enabling id (Some (Disable seen)) is = absurd (false≢true is)
 on_of_enabling id None is = absurd (false≢true is)
 
-not_disabling : (id : UpdateId) (does : Option FlagOp) → seen_number id.replica does < id.number → disables does id ≡ false
+not_disabling : (id : UpdateId) (does : Option FlagOp) → seen_number id.replica does < id.number
+    → disables does id ≡ false
 unfolding seen_number
 not_disabling id (Some (Disable seen)) lt = lt-leb id.number (count_in seen id.replica) lt
 not_disabling id (Some Enable) lt = refl
 not_disabling id None lt = refl
 
-below_undisabled : (id : UpdateId) (does : Option FlagOp) → 0 < id.number → disables does id ≡ false → seen_number id.replica does < id.number
+below_undisabled : (id : UpdateId) (does : Option FlagOp) → 0 < id.number → disables does id ≡ false
+    → seen_number id.replica does < id.number
 unfolding seen_number
 below_undisabled id (Some (Disable seen)) more not = leb-false id.number (count_in seen id.replica) not
 below_undisabled id (Some Enable) more not = more
@@ -160,7 +169,14 @@ module _ (us : List Update) where
   unseen r lt id replica ahead k d within =
       let v = get_or us k d in
       not_disabling id (flag_of v.op)
-      (omega (arith, ahead, ap (λ q. seen_number q (flag_of v.op)) replica, highest-above (off r lt) (count_in flag_start.seen r) us k d within, seen_end r lt flag_start us))
+      (omega (
+        arith,
+        ahead,
+        ap (λ q. seen_number q (flag_of v.op)) replica,
+        highest-above (off r lt)
+            (count_in flag_start.seen r) us k d within,
+        seen_end r lt flag_start us,
+      ))
 
   is_on-ahead : IsAhead end → is_flag_on us ≡ true
   is_on-ahead (r, lt, ahead) = by (enabled_by r lt ahead)
@@ -168,7 +184,8 @@ module _ (us : List Update) where
       by : Any (λ u. on r lt u ≡ count_in end.enabled r) us → is_flag_on us ≡ true
       by (k, u, within, at, is) =
           let from = enabling_from r (count_in end.enabled r) u.id (flag_of u.op) lt (omega arith) is in
-          let none = list_any_none (λ v. disables (flag_of v.op) u.id) us (unseen r lt u.id from.replica (omega (arith, ahead, from.number))) in
+          let none = list_any_none (λ v. disables (flag_of v.op) u.id) us (unseen r lt u.id from.replica (omega
+          (arith, ahead, from.number))) in
           list_any-from_Any (λ u. is_enabling u && not (list_any (λ v. disables (flag_of v.op) u.id) us)) us
           (k, u, within, at, and_from _ _ from.enabling (not_from_false _ none))
 
@@ -184,7 +201,8 @@ module _ (us : List Update) where
   ]
 
   ahead-is_on : is_flag_on us ≡ true → IsAhead end
-  ahead-is_on t = by (Any-from_list_any (λ u. is_enabling u && not (list_any (λ v. disables (flag_of v.op) u.id) us)) us t)
+  ahead-is_on t =
+      by (Any-from_list_any (λ u. is_enabling u && not (list_any (λ v. disables (flag_of v.op) u.id) us)) us t)
     where
       by : Any (λ u. (is_enabling u && not (list_any (λ v. disables (flag_of v.op) u.id) us)) ≡ true) us → IsAhead end
       by (k, u, within, at, test) =
@@ -194,8 +212,20 @@ module _ (us : List Update) where
           let lt : u.id.replica < 8 = ltb-true _ _ bounds.0 in
           let more : 0 < u.id.number = ltb-true _ _ bounds.1 in
           let none = none_any (λ v. disables (flag_of v.op) u.id) us (not-true _ parts.1) in
-          let below = highest-above (on u.id.replica lt) (count_in flag_start.enabled u.id.replica) us k u within in
-          (u.id.replica, lt, omega (arith, seen_below u.id lt more none, below, ap (on u.id.replica lt) at, on_of_enabling u.id (flag_of u.op) enabling.1, enabled_end u.id.replica lt flag_start us))
+          let below = highest-above (on u.id.replica lt) (count_in flag_start.enabled u.id.replica) us k u within in (
+            u.id.replica,
+            lt,
+            omega (
+              arith,
+              seen_below u.id lt more none,
+              below,
+              ap
+                  (on u.id.replica lt) at,
+              on_of_enabling u.id
+                  (flag_of u.op) enabling.1,
+              enabled_end u.id.replica lt flag_start us,
+            ),
+          )
 
   pub flag_means : is_ahead end ≡ is_flag_on us
   flag_means = same_from_decides _ _ (ahead-Decides end) (ahead-is_on, is_on-ahead)

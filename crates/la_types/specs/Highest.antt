@@ -1,5 +1,6 @@
 -- The highest of the numbers that a list's items have.
-use Rattle.std.proofs.Common.{◌≡◌, ◌⊎◌, ℕ, zero, suc, ◌<◌, ◌≤◌, max, Bool, false, List, [], ◌∷◌, length, get_or, All, refl, sym, ◌∙◌, inl, inr, arith}
+use Rattle.std.proofs.Common.{◌≡◌, ◌⊎◌, ℕ, zero, suc, ◌<◌, ◌≤◌, max, Bool, false, List, [], ◌∷◌, length, get_or, All}
+use Rattle.std.proofs.Common.{refl, sym, ◌∙◌, inl, inr, arith}
 use Rattle.std.specs.List.{Any, list_any}
 use Rattle.std.proofs.lemmas.Bool.{cases_lt, cases_Bool, false≢true}
 use Rattle.std.proofs.lemmas.List.{get_or_default}
@@ -16,7 +17,8 @@ module _ {X : Type 0} where
   highest-from f n [] = omega arith
   highest-from f n (x ∷ xs) = omega (arith, highest-from f (max n (f x)) xs)
 
-  pub highest-above : (f : X → ℕ) (n : ℕ) (xs : List X) (k : ℕ) (d : X) → k < length xs → f (get_or xs k d) ≤ highest f n xs
+  pub highest-above : (f : X → ℕ) (n : ℕ) (xs : List X) (k : ℕ) (d : X) → k < length xs
+      → f (get_or xs k d) ≤ highest f n xs
   unfolding highest
   highest-above f n [] k d lt = absurd (omega arith)
   highest-above f n (x ∷ xs) zero d lt = omega (arith, highest-from f (max n (f x)) xs)
@@ -39,6 +41,7 @@ module _ {X : Type 0} where
   -- no item passes a test that finds none
   pub none_any : (p : X → Bool) (xs : List X) → list_any p xs ≡ false → All (λ x. p x ≡ false) xs
   none_any p xs none k d lt = elim (cases_Bool (p (get_or xs k d))) [
-    | inl is ↦ absurd (false≢true (sym none ∙ list_any-from_Any p xs (k, get_or xs k d, lt, get_or_default xs k (get_or xs k d) d lt, is)))
+    | inl is ↦ absurd (false≢true (sym none
+        ∙ list_any-from_Any p xs (k, get_or xs k d, lt, get_or_default xs k (get_or xs k d) d lt, is)))
     | inr not ↦ not
   ]

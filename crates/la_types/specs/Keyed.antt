@@ -1,5 +1,6 @@
 -- Writes under keys: of each key the last.
-use Rattle.std.specs.Prelude.{ℕ, nat_le, Bool, true, ◌&&◌, List, ◌∷◌, ◌++◌, length, take, drop, slice_index, Option, Some, None, refl, if◌then◌else◌}
+use Rattle.std.specs.Prelude.{ℕ, nat_le, Bool, true, ◌&&◌, List, ◌∷◌, ◌++◌, length, take, drop, slice_index, Option}
+use Rattle.std.specs.Prelude.{Some, None, refl, if◌then◌else◌}
 use Rattle.std.specs.List.{filter_map}
 use Rattle.std.specs.Option.{option_and_then}
 use Rattle.std.specs.Int.{w64, to_le_bytes, from_le_bytes}
@@ -65,7 +66,15 @@ keyed_op stamp key value = own (keyed_bytes stamp key value)
 abbrev pub keyed_read : UpdateId → List ℕ → Option Keyed
 keyed_read id bytes =
     if nat_le 9 (length bytes) && nat_le (slice_index bytes 8) (length (drop 9 bytes))
-    then Some (take (slice_index bytes 8) (drop 9 bytes), record { stamp = from_le_bytes w64 bytes; id = id; value = drop (slice_index bytes 8) (drop 9 bytes) })
+    then Some (
+      take (slice_index bytes 8) (drop 9 bytes),
+      record {
+        stamp =
+            from_le_bytes w64 bytes;
+        id = id;
+        value = drop (slice_index bytes 8) (drop 9 bytes);
+      },
+    )
     else None
 
 -- what an update with this operation writes, and under which key, where it is such a write

@@ -14,3 +14,5 @@ pub mod Keyed
 pub mod KeyOrder
 pub mod WriteMaps
 pub mod WriteMapLaws
+pub mod Multis
+pub mod MultiLaws

@@ -3,6 +3,7 @@ use Rattle.std.specs.Prelude.{ℕ, ◌+◌, ◌<◌, ◌≤◌, List, length}
 use Rattle.la_own.specs.declared.error.OwnError.{OwnError}
 use Rattle.la_own.specs.declared.error.OwnError.TheVariants.{TooLong, Memory}
 use Rattle.la_types.specs.declared.write.TheConstants.{REGISTER_BYTES}
+use Rattle.la_types.specs.declared.multi.TheConstants.{MULTI_BYTES}
 use Rattle.la_types.specs.declared.write_map.TheConstants.{KEYED_BYTES}
 
 abbrev pub IsWriteRefusal : List ℕ → OwnError → Type 0
@@ -12,3 +13,7 @@ IsWriteRefusal value Memory = length value ≤ REGISTER_BYTES
 abbrev pub IsKeyedRefusal : List ℕ → List ℕ → OwnError → Type 0
 IsKeyedRefusal key value TooLong = KEYED_BYTES < length key + length value
 IsKeyedRefusal key value Memory = length key + length value ≤ KEYED_BYTES
+
+abbrev pub IsMultiRefusal : List ℕ → OwnError → Type 0
+IsMultiRefusal value TooLong = MULTI_BYTES < length value
+IsMultiRefusal value Memory = length value ≤ MULTI_BYTES

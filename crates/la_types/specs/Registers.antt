@@ -4,7 +4,7 @@ use Rattle.std.specs.List.{filter_map}
 use Rattle.la_set.specs.declared.update.Update.{Update}
 use Rattle.la_shelf.specs.Meanings.{Meaning}
 use Rattle.la_types.specs.declared.write.Write.{Write}
-use Rattle.la_types.specs.Writes.{last_write, with_write, value_written, write_of}
+use Rattle.la_types.specs.Writes.{last_write, with_write, value_in, write_of}
 
 -- what is written by updates
 abbrev pub writes : List Update → List Write
@@ -15,7 +15,7 @@ register_meaning = record {
   start = λ kind. None;
   kind_of = λ last. tt;
   after = λ last u. with_write last (write_of u.id u.op);
-  reply = λ last question. value_written last;
-  value = λ kind us question. value_written (last_write (writes us));
+  reply = λ last question. value_in last;
+  value = λ kind us question. value_in (last_write (writes us));
   in_place = λ kind question. false;
 }

@@ -1,5 +1,6 @@
 -- Eight counts, by their numbers.
-use Rattle.std.proofs.Common.{◌≡◌, ℕ, zero, suc, ◌<◌, ◌==◌, cond, max, [], ◌∷◌, get_or, set, replicate, refl, ap, sym, ◌∙◌, inl, inr, arith}
+use Rattle.std.proofs.Common.{◌≡◌, ℕ, zero, suc, ◌<◌, ◌==◌, cond, max, [], ◌∷◌, get_or, set, replicate, refl, ap, sym}
+use Rattle.std.proofs.Common.{◌∙◌, inl, inr, arith}
 use Rattle.std.proofs.lemmas.Bool.{cases_eq, eq-eqb, ne_eqb}
 use Rattle.std.proofs.lemmas.List.{get_or-set_same, get_or-set_other}
 use Rattle.la_set.specs.declared.counts.Counts.{Counts}
@@ -9,7 +10,8 @@ use Rattle.la_types.specs.Seen.{seen_by_either}
 pub same_counts : (f g : ℕ → ℕ) → ((r : ℕ) → r < 8 → f r ≡ g r) → from_counts f ≡ from_counts g
 unfolding from_counts
 same_counts f g same i = record {
-  of = same 0 (omega arith) i ∷ same 1 (omega arith) i ∷ same 2 (omega arith) i ∷ same 3 (omega arith) i ∷ same 4 (omega arith) i ∷ same 5 (omega arith) i ∷ same 6 (omega arith) i ∷ same 7 (omega arith) i ∷ [];
+  of = same 0 (omega arith) i ∷ same 1 (omega arith) i ∷ same 2 (omega arith) i ∷ same 3 (omega arith) i
+      ∷ same 4 (omega arith) i ∷ same 5 (omega arith) i ∷ same 6 (omega arith) i ∷ same 7 (omega arith) i ∷ [];
 }
 
 pub count_in-from : (f : ℕ → ℕ) (r : ℕ) → r < 8 → count_in (from_counts f) r ≡ f r

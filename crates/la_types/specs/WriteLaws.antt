@@ -1,6 +1,8 @@
 -- Of writes one after another, the last by stamp and id is what stays, in whatever order two of
 -- different replicas come.
-use Rattle.std.proofs.Common.{◌≡◌, ◌≢◌, ◌⊎◌, ℕ, zero, suc, ◌<◌, nat_le, Bool, true, false, not, cond, List, [], ◌∷◌, length, get_or, drop, All, fold, Option, Some, None, refl, ap, sym, ◌∙◌, subst, inl, inr, arith}
+use Rattle.std.proofs.Common.{◌≡◌, ◌≢◌, ◌⊎◌, ℕ, zero, suc, ◌<◌, nat_le, Bool, true, false, not, cond, List, [], ◌∷◌}
+use Rattle.std.proofs.Common.{length, get_or, drop, All, fold, Option, Some, None, refl, ap, sym, ◌∙◌, subst, inl}
+use Rattle.std.proofs.Common.{inr, arith}
 use Rattle.std.specs.List.{list_any, find, filter_map, cons_option}
 use Rattle.std.specs.Option.{option_and_then}
 use Rattle.std.specs.Int.{w64, from_le_bytes}
@@ -18,16 +20,19 @@ use Rattle.la_types.specs.Writes.{is_before, precedes, later, with_write, last_w
 -- ## The order
 
 -- three numbers in order, and three pairs of numbers
-before_trans : (a b c : ℕ) (i j k : UpdateId) → is_before a i b j ≡ true → is_before b j c k ≡ true → is_before a i c k ≡ true
+before_trans : (a b c : ℕ) (i j k : UpdateId) → is_before a i b j ≡ true → is_before b j c k ≡ true
+    → is_before a i c k ≡ true
 before_trans a b c i j k p q = grind arith
 
-before_back : (a b c : ℕ) (i j k : UpdateId) → is_before a i b j ≡ false → is_before b j c k ≡ false → is_before a i c k ≡ false
+before_back : (a b c : ℕ) (i j k : UpdateId) → is_before a i b j ≡ false → is_before b j c k ≡ false
+    → is_before a i c k ≡ false
 before_back a b c i j k p q = grind arith
 
 before_self : (a : ℕ) (i : UpdateId) → is_before a i a i ≡ false
 before_self a i = grind arith
 
-before_either : (a b : ℕ) (i j : UpdateId) → i.replica ≢ j.replica → is_before a i b j ≡ false → is_before b j a i ≡ true
+before_either : (a b : ℕ) (i j : UpdateId) → i.replica ≢ j.replica → is_before a i b j ≡ false
+    → is_before b j a i ≡ true
 before_either a b i j ne p = grind arith
 
 order_trans : (x y z : Write) → precedes x y ≡ true → precedes y z ≡ true → precedes x z ≡ true
@@ -60,7 +65,8 @@ in_order : (s x y : Write) → precedes x y ≡ true → later (later s x) y ≡
 in_order s x y before = elim (cases_Bool (precedes s x)) [
   | inl after ↦
       ap (λ w. later w y) (chosen_after s x after) ∙ chosen_after x y before
-      ∙ sym (ap (λ w. later w x) (chosen_after s y (order_trans s x y after before)) ∙ chosen_before y x (order_not x y before))
+      ∙ sym (ap (λ w. later w x) (chosen_after s y (order_trans s x y after before))
+      ∙ chosen_before y x (order_not x y before))
   | inr not ↦
       ap (λ w. later w y) (chosen_before s x not)
       ∙ elim (cases_Bool (precedes s y)) [
@@ -99,7 +105,8 @@ write_swap (Some w) (Some x) (Some y) differ = ap Some (either_order w x y (diff
 abbrev IsChosen : Write → List Write → Write → Type 0
 IsChosen s ws r =
     ((r ≡ s) × All (λ w. precedes s w ≡ false) ws)
-    ⊎ ((k : ℕ) × (k < length ws) × (get_or ws k r ≡ r) × (precedes s r ≡ true) × ((j : ℕ) → j < k → precedes (get_or ws j r) r ≡ true) × All (λ w. precedes r w ≡ false) ws)
+    ⊎ ((k : ℕ) × (k < length ws) × (get_or ws k r ≡ r) × (precedes s r ≡ true) × ((j : ℕ) → j < k
+    → precedes (get_or ws j r) r ≡ true) × All (λ w. precedes r w ≡ false) ws)
 
 -- one more write before them
 one_more : (s w : Write) (ws : List Write) (r : Write) → IsChosen (later s w) ws r → IsChosen s (w ∷ ws) r
@@ -116,7 +123,8 @@ one_more s w ws r chosen = elim (cases_Bool (precedes s w)) [
           sym is,
           subst (λ x. precedes s x ≡ true) (sym is) before,
           (λ j lt. absurd (omega arith)),
-          subst (λ x. All (λ v. precedes x v ≡ false) (w ∷ ws)) (sym is) (All-cons (λ v. precedes w v ≡ false) w ws (order_self w) all),
+          subst (λ x. All (λ v. precedes x v ≡ false) (w
+              ∷ ws)) (sym is) (All-cons (λ v. precedes w v ≡ false) w ws (order_self w) all),
         )
     after before (inr (k, lt, at, past, earlier, all)) =
         inr (
@@ -173,11 +181,13 @@ last_of : (w : Write) (ws : List Write) (r : Write) → IsChosen w ws r → last
 last_of w ws r (inl (is, all)) =
     find_at (λ x. not (list_any (precedes x) (w ∷ ws))) (w ∷ ws) 0 r (omega arith) (sym is)
     (not_from_false _ (list_any_none (precedes r) (w ∷ ws)
-    (subst (λ x. All (λ v. precedes x v ≡ false) (w ∷ ws)) (sym is) (All-cons (λ v. precedes w v ≡ false) w ws (order_self w) all))))
+    (subst (λ x. All (λ v. precedes x v ≡ false) (w
+    ∷ ws)) (sym is) (All-cons (λ v. precedes w v ≡ false) w ws (order_self w) all))))
     (λ j lt. absurd (omega arith))
 last_of w ws r (inr (k, lt, at, past, earlier, all)) =
     find_at (λ x. not (list_any (precedes x) (w ∷ ws))) (w ∷ ws) (suc k) r (omega arith) at
-    (not_from_false _ (list_any_none (precedes r) (w ∷ ws) (All-cons (λ v. precedes r v ≡ false) w ws (order_not w r past) all)))
+    (not_from_false _ (list_any_none (precedes r) (w
+    ∷ ws) (All-cons (λ v. precedes r v ≡ false) w ws (order_not w r past) all)))
     before
   where
     passed : (x : Write) → precedes x r ≡ true → not (list_any (precedes x) (w ∷ ws)) ≡ false
@@ -199,7 +209,8 @@ last_is (w ∷ ws) = fold_some w ws ∙ sym (last_of w ws (fold later w ws) (cho
 
 module _ (write : Update → Option Write) where
   one_write : (s : Option Write) (o : Option Write) (ws : List Write)
-      → fold (λ t x. with_write t (Some x)) (with_write s o) ws ≡ fold (λ t x. with_write t (Some x)) s (cons_option o ws)
+      → fold (λ t x. with_write t (Some x)) (with_write s o) ws
+      ≡ fold (λ t x. with_write t (Some x)) s (cons_option o ws)
   one_write s None ws = refl
   one_write s (Some x) ws = refl
 
@@ -210,9 +221,12 @@ module _ (write : Update → Option Write) where
 
 -- ## What is written has the id of its update
 
-read_id : (id : UpdateId) (bytes : List ℕ) (b : Bool) → nat_le 8 (length bytes) ≡ b → (x : Write) → write_read id bytes ≡ Some x → x.id ≡ id
-read_id id bytes true is x e = ap (λ (w : Write). w.id) (sym (same_Some _ _ (sym (ap (λ b. cond b (Some (record { stamp = from_le_bytes w64 bytes; id = id; value = drop 8 bytes })) None) is) ∙ e)))
-read_id id bytes false is x e = absurd (none-some x (sym (ap (λ b. cond b (Some (record { stamp = from_le_bytes w64 bytes; id = id; value = drop 8 bytes })) None) is) ∙ e))
+read_id : (id : UpdateId) (bytes : List ℕ) (b : Bool) → nat_le 8 (length bytes) ≡ b → (x : Write)
+    → write_read id bytes ≡ Some x → x.id ≡ id
+read_id id bytes true is x e = ap (λ (w : Write). w.id) (sym (same_Some _ _ (sym (ap (λ b. cond b (Some
+    (record { stamp = from_le_bytes w64 bytes; id = id; value = drop 8 bytes })) None) is) ∙ e)))
+read_id id bytes false is x e = absurd (none-some x (sym (ap (λ b. cond b (Some
+    (record { stamp = from_le_bytes w64 bytes; id = id; value = drop 8 bytes })) None) is) ∙ e))
 
 some_id : (id : UpdateId) (o : Option (List ℕ)) (x : Write) → option_and_then (write_read id) o ≡ Some x → x.id ≡ id
 some_id id None x e = absurd (none-some x e)

@@ -1,6 +1,7 @@
 -- Writes of bytes, and the last of some: by their stamps, and where stamps are equal by the ids of
 -- the updates that made them.
-use Rattle.std.specs.Prelude.{ℕ, ◌==◌, nat_lt, nat_le, Bool, not, ◌&&◌, ◌||◌, List, ◌++◌, length, drop, Option, Some, None, option_map, if◌then◌else◌}
+use Rattle.std.specs.Prelude.{ℕ, ◌==◌, nat_lt, nat_le, Bool, not, ◌&&◌, ◌||◌, List, ◌++◌, length, drop, Option, Some}
+use Rattle.std.specs.Prelude.{None, option_map, if◌then◌else◌}
 use Rattle.std.specs.List.{list_any, find}
 use Rattle.std.specs.Option.{option_and_then}
 use Rattle.std.specs.Int.{w64, to_le_bytes, from_le_bytes}
@@ -32,8 +33,8 @@ with_write last None = last
 with_write None (Some write) = Some write
 with_write (Some last) (Some write) = Some (later last write)
 
-abbrev pub value_written : Option Write → Option (List ℕ)
-value_written last = option_map (λ (write : Write). write.value) last
+abbrev pub value_in : Option Write → Option (List ℕ)
+value_in last = option_map (λ (write : Write). write.value) last
 
 -- ## Operations
 

@@ -2,7 +2,8 @@ ghost use Rattle.std.specs.Prelude.{◌≡◌, Some, IfOk, IfErr, IsOk, if◌the
 ghost use Rattle.la_set.specs.Counts.{zero_counts};
 ghost use Rattle.la_own.specs.declared.error.OwnError.TheVariants.{Memory};
 ghost use Rattle.la_types.specs.Seen.{up_to};
-ghost use Rattle.la_types.specs.Flags.{flag_bytes, plain_flag_op, flag_op, flag_of, flag_start, flag_read, flag_step, is_ahead};
+ghost use Rattle.la_types.specs.Flags.{flag_bytes, plain_flag_op, flag_op, flag_of, flag_start};
+ghost use Rattle.la_types.specs.Flags.{flag_read, flag_step, is_ahead};
 ghost use Rattle.la_types.specs.declared.flag.FlagOp.TheVariants.{Enable};
 
 use crate::bytes::{Written, counts_in, put_counts};
@@ -16,8 +17,8 @@ use std::alloc::{AllocError, Global};
 pub enum FlagOp {
     /// Turns it on.
     Enable,
-    /// Turns it off as far as its maker had seen it turned on: `seen` is `view.counts()` of the view
-    /// that he acted by.
+    /// Turns it off as far as its maker had seen it turned on: `seen` is `view.counts()` of the
+    /// view that he acted by.
     Disable { seen: Counts },
 }
 

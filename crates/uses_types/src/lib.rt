@@ -6,6 +6,7 @@
 pub mod counters;
 pub mod flags;
 pub mod maps;
+pub mod multis;
 pub mod notes;
 pub mod own;
 pub mod registers;

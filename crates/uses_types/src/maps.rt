@@ -1,7 +1,7 @@
 ghost use Rattle.std.specs.Prelude.{◌≡◌, IfOk};
 ghost use Rattle.la_set.specs.Inclusion.{IsSubset};
 ghost use Rattle.la_shelf.specs.Shelves.{updates_at};
-ghost use Rattle.la_types.specs.Writes.{last_write, value_written};
+ghost use Rattle.la_types.specs.Writes.{last_write, value_in};
 ghost use Rattle.la_types.specs.Keyed.{writes_under};
 
 use la_set::UpdateSet;
@@ -18,7 +18,7 @@ pub fn looked_up(
 ) -> Result<Option<Bytes>, ShelfError>
     requires { IsSubset shelf.old.view view.now }
     ensures { IfOk result (λ value.
-        value ≡ value_written (last_write (writes_under key.now (updates_at view.now number)))) }
+        value ≡ value_in (last_write (writes_under key.now (updates_at view.now number)))) }
 {
     shelf.ask_by(view, number, key)
 }

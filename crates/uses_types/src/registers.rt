@@ -1,7 +1,7 @@
 ghost use Rattle.std.specs.Prelude.{◌≡◌, IfOk};
 ghost use Rattle.la_set.specs.Inclusion.{IsSubset};
 ghost use Rattle.la_shelf.specs.Shelves.{updates_at};
-ghost use Rattle.la_types.specs.Writes.{last_write, value_written};
+ghost use Rattle.la_types.specs.Writes.{last_write, value_in};
 ghost use Rattle.la_types.specs.Registers.{writes};
 
 use la_set::UpdateSet;
@@ -17,7 +17,7 @@ pub fn written(
 ) -> Result<Option<Bytes>, ShelfError>
     requires { IsSubset shelf.old.view view.now }
     ensures { IfOk result (λ value.
-        value ≡ value_written (last_write (writes (updates_at view.now number)))) }
+        value ≡ value_in (last_write (writes (updates_at view.now number)))) }
 {
     shelf.ask_by(view, number, &())
 }

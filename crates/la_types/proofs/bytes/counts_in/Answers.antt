@@ -7,5 +7,6 @@ unfolding from_counts
 returns c =
     c.from.ensures
     ∙ (λ i. record {
-      of = c.count_at.ensures i ∷ c.count_at-2.ensures i ∷ c.count_at-3.ensures i ∷ c.count_at-4.ensures i ∷ c.count_at-5.ensures i ∷ c.count_at-6.ensures i ∷ c.count_at-7.ensures i ∷ c.count_at-8.ensures i ∷ [];
+      of = c.count_at.ensures i ∷ c.count_at-2.ensures i ∷ c.count_at-3.ensures i ∷ c.count_at-4.ensures i
+          ∷ c.count_at-5.ensures i ∷ c.count_at-6.ensures i ∷ c.count_at-7.ensures i ∷ c.count_at-8.ensures i ∷ [];
     })

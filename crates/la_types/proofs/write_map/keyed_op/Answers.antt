@@ -14,7 +14,8 @@ returns-clause-comes_back c =
     (c.put_all-2.ensures
     ∙ ap (λ bs. bs ++ key)
     (c.push.ensures.items
-    ∙ ap (λ bs. bs ++ length key ∷ []) (c.put_all.ensures ∙ (λ i. c.new-bytes.ensures i ++ c.to_le_bytes.ensures i)))) in
+    ∙ ap (λ bs. bs ++ length key ∷ []) (c.put_all.ensures
+    ∙ (λ i. c.new-bytes.ensures i ++ c.to_le_bytes.ensures i)))) in
     keyed_back c.bytes_come_back.ensures.read c.args.stamp key value c.ranges.stamp.fits c.own_op.result
     (λ ok. subst AreOwnBytes bytes (c.own_op.ensures.fits ok))
     (subst (λ bs. IfOk c.own_op.result (λ op. op ≡ own bs)) bytes c.own_op.ensures.ok)

@@ -6,7 +6,8 @@ use Rattle.la_types.proofs.flag.FlagOp.to_op.Goals as goal
 
 pub returns-clause-comes_back : goal.returns-clause-comes_back
 returns-clause-comes_back c =
-    let bytes : c.as_slice.result.now ≡ flag_bytes c.args.self.now = c.as_slice.ensures.value ∙ c.written.ensures.bytes in
+    let bytes : c.as_slice.result.now ≡ flag_bytes c.args.self.now = c.as_slice.ensures.value
+    ∙ c.written.ensures.bytes in
     op_back c.bytes_come_back.ensures.read c.args.self.now c.written.ensures.back c.own_op.result
     (λ ok. subst AreOwnBytes bytes (c.own_op.ensures.fits ok))
     (subst (λ bs. IfOk c.own_op.result (λ op. op ≡ own bs)) bytes c.own_op.ensures.ok)

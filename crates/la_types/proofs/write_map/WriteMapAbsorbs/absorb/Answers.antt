@@ -14,7 +14,8 @@ returns-then-bytes-lt9-clause-ok c =
     let u = c.args.update.now in
     let bytes = c.as_slice-bytes.ensures.bytes in
     ap (with_keyed c.args.self.now.last)
-    (sym (too_short u.id u.op c.in-Some.own c.in-Some.ensures.value (omega (arith, ap length bytes, c.if-bytes-lt9.true))))
+    (sym (too_short u.id u.op c.in-Some.own c.in-Some.ensures.value (omega
+    (arith, ap length bytes, c.if-bytes-lt9.true))))
 
 pub returns-then-rest-long-clause-ok : goal.returns-then-rest-long-clause-ok
 returns-then-rest-long-clause-ok c =
@@ -37,8 +38,17 @@ returns-clause-ok c =
     let value : c.in_ok-of.field-0 ≡ drop (get_or own 8 0) (drop 9 own) =
     c.in_ok-of.ensures ∙ c.split_at.ensures.back ∙ (λ i. drop (get_or (bytes i) 8 0) (rest i)) in
     let stamp : c.stamp_in.result ≡ from_le_bytes w64 own = c.stamp_in.ensures ∙ ap (from_le_bytes w64) bytes in
-    let same : ◌≡◌ {A = Option Keyed} (Some (c.in_ok-key.key, record { stamp = c.stamp_in.result; id = u.id; value = c.in_ok-of.field-0 }))
-    (Some (take (get_or own 8 0) (drop 9 own), record { stamp = from_le_bytes w64 own; id = u.id; value = drop (get_or own 8 0) (drop 9 own) })) =
+    let same : ◌≡◌ {A = Option Keyed} (Some
+    (c.in_ok-key.key, record { stamp = c.stamp_in.result; id = u.id; value = c.in_ok-of.field-0 }))
+    (Some (
+      take (get_or own 8 0) (drop 9 own),
+      record {
+        stamp =
+            from_le_bytes w64 own;
+        id = u.id;
+        value = drop (get_or own 8 0) (drop 9 own);
+      },
+    )) =
     λ i. Some (key i, record { stamp = stamp i; id = u.id; value = value i }) in
     c.in_ok-take.ensures.ok
     ∙ ap (with_keyed c.args.self.now.last)
