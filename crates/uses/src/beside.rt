@@ -42,10 +42,8 @@ pub fn by_two_nodes<B: Absorbs, N: Replicated>(
 ) -> Result<(B::Answer, B::Answer), ShelfError>
 where
     B::Answer: Drop,
-    requires within { IsSubset first.old.view one.now.replica.view × IsSubset second.old.view other.now.replica.view }
-    requires kind { kind_at first.old.objects number ≡ kind_at second.old.objects number }
-    ensures { one.now.replica.view ≡ other.now.replica.view
-        → IfOk result (λ answers. answers.0 ≡ answers.1) }
+    requires { (IsSubset first.old.view one.now.replica.view × IsSubset second.old.view other.now.replica.view) × (kind_at first.old.objects number ≡ kind_at second.old.objects number) }
+    ensures { one.now.replica.view ≡ other.now.replica.view → IfOk result (λ answers. answers.0 ≡ answers.1) }
 {
     laws::equal_views_answer_alike::<B>();
     let here = by_node(first, one, number, query)?;
