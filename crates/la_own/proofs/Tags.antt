@@ -48,7 +48,7 @@ id_eq-Decides x y = (
       and_parts _ _ t in λ i. record
       { replica = eqb-true x.replica y.replica p.0 i; number = eqb-true x.number y.number p.1 i },
   λ e. and_from _ _ (eq-eqb x.replica y.replica (ap (λ w. w.replica) e))
-  (eq-eqb x.number y.number (ap (λ w. w.number) e)),
+      (eq-eqb x.number y.number (ap (λ w. w.number) e)),
 )
 
 pub tags_eq-Decides : (xs ys : List UpdateId) → Decides (pointwise id_eq xs ys) (xs ≡ ys)
@@ -78,7 +78,7 @@ pub own_tags-high : (bytes : List ℕ) → All (λ tag. 8 ≤ tag.replica) (own_
 own_tags-high bytes zero d lt = omega arith
 own_tags-high bytes (suc k) d lt =
     let within : k < word_count bytes =
-        omega (arith, length-map-range_with_len (word_tag bytes) 0 (word_count bytes)) in
+    omega (arith, length-map-range_with_len (word_tag bytes) 0 (word_count bytes)) in
     omega
     (arith, ap (λ t. t.replica) (get_or-map-range_with_len (word_tag bytes) 0 (word_count bytes) k k d within (omega arith)))
 

@@ -64,7 +64,7 @@ module _ (bytes : List ℕ) (own : AreOwnBytes bytes) where
   read_back k lt =
       let place = k / 4 in
       let tag : get_or (own_tags bytes) (k / 4 + 1) no_tag ≡ word_tag bytes place =
-          own_tags-at bytes place (omega arith) in
+      own_tags-at bytes place (omega arith) in
       let word : word_of (get_or (own_tags bytes) (k / 4 + 1) no_tag) ≡ word_at bytes place =
       ap word_of tag ∙ word_back place (word_at bytes place) (word_small bytes own.small place) in
       let at : 4 * place + k % 4 ≡ k = omega arith in
@@ -100,7 +100,7 @@ pub own_tags-fit : (bytes : List ℕ) → AreOwnBytes bytes
 own_tags-fit bytes own zero d lt = (omega arith, omega arith, omega (arith, own.few))
 own_tags-fit bytes own (suc k) d lt =
     let within : k < word_count bytes =
-        omega (arith, length-map-range_with_len (word_tag bytes) 0 (word_count bytes)) in
+    omega (arith, length-map-range_with_len (word_tag bytes) 0 (word_count bytes)) in
     let small : word_at bytes k < 4294967296 = word_small bytes own.small k in
     let few : word_count bytes ≤ 62 = omega (arith, own.few) in
     let fits : (10 + 2 * k + word_at bytes k / 2147483648 < 256) × (1 ≤ word_at bytes k % 2147483648 + 1)
@@ -124,7 +124,7 @@ bytes_in-small tags few = record {
   few = omega (arith, length-map-range_with_len (byte_at tags) 0 (told_length tags));
   small = λ k d lt.
       let within : k < told_length tags =
-          omega (arith, length-map-range_with_len (byte_at tags) 0 (told_length tags)) in
+      omega (arith, length-map-range_with_len (byte_at tags) 0 (told_length tags)) in
       omega
       (arith, byte_at-small tags k, get_or-map-range_with_len (byte_at tags) 0 (told_length tags) k k d within (omega arith));
 }

@@ -14,7 +14,7 @@ pub returns-then-not-is_at : goal.returns-then-not-is_at
 returns-then-not-is_at c = (
   λ e. absurd (false≢true e),
   λ same. sym c.if-not-is_at.true
-  ∙ c.is_at.ensures.1 (ap (λ tags. get_or tags 0 no_tag) same ∙ sym c.length_tag.ensures),
+      ∙ c.is_at.ensures.1 (ap (λ tags. get_or tags 0 no_tag) same ∙ sym c.length_tag.ensures),
 )
 
 pub returns-then-not-is_at-2 : goal.returns-then-not-is_at-2

@@ -16,7 +16,7 @@ loop-replica-init c = record {
 pub loop-replica-preserved : goal.loop-replica-preserved
 loop-replica-preserved c =
     let lt : c.loop-replica.replica < used c.args.counts =
-        omega (arith, c.loop-replica-test.true, c.used-many.ensures.exact) in
+    omega (arith, c.loop-replica-test.true, c.used-many.ensures.exact) in
     let put : c.put_behind.new.out.items
     ≡ c.loop-replica.out.items ++ 44 ∷ decimal (count_in c.args.counts c.loop-replica.replica) =
     c.in_ok-put_behind.ensures ∙ ap (λ n. c.loop-replica.out.items ++ 44 ∷ decimal n) c.of-in-loop-replica.ensures in
