@@ -1,4 +1,4 @@
-ghost use Rattle.std.specs.Prelude.{◌≡◌, Some, IfOk, IfErr, IsOk, if◌then◌else◌};
+ghost use Rattle.std.specs.Prelude.{◌≡◌, Some, IfOk, IfErr, IsOk, OnOk, OnErr, if◌then◌else◌};
 ghost use Rattle.la_set.specs.Counts.{zero_counts};
 ghost use Rattle.la_own.specs.declared.error.OwnError.TheVariants.{Memory};
 ghost use Rattle.la_types.specs.Seen.{up_to};
@@ -130,7 +130,11 @@ impl Absorbs for Flag {
         self.state.enabled == Counts::zero() && self.state.seen == Counts::zero()
     }
 
-    fn absorb(&mut self, update: &Update) -> Result<(), Refusal> {
+    fn absorb(&mut self, update: &Update) -> Result<(), Refusal>
+        ensures ok { OnOk result (self.new.state ≡ flag_meaning.after self.old.state update.now) }
+        ensures err { OnErr result (self.new.state ≡ self.old.state) }
+        ensures never { IsOk result }
+    {
         if let Some(does) = FlagOp::of_op(&update.op) {
             self.state = step(self.state, update.id, does);
         }

@@ -1,5 +1,5 @@
 ghost use Rattle.std.specs.Prelude.{◌≡◌, ◌↔◌, ◌++◌, [], Some, None, set, replicate};
-ghost use Rattle.std.specs.Prelude.{IsTrue, IfOk, IfErr, OnOk};
+ghost use Rattle.std.specs.Prelude.{IsTrue, IfOk, IfErr, OnOk, OnErr};
 ghost use Rattle.std.specs.Prelude.{slice_index_or};
 ghost use Rattle.std.specs.List.{cons_option};
 ghost use Rattle.std.specs.Option.{option_copied};
@@ -155,6 +155,7 @@ impl MultiRegister {
 
 impl Absorbs for MultiRegister {
     ghost use Rattle.la_types.specs.Multis.{multi_meaning};
+    ghost use Rattle.la_shelf.specs.declared.error.Refusal.TheVariants.{Memory};
     ghost use Rattle.la_types.specs.MultiLaws.{multi_lawful};
 
     type Kind = ();
@@ -173,7 +174,11 @@ impl Absorbs for MultiRegister {
         self.state.last.is_empty() && self.state.seen == Counts::zero()
     }
 
-    fn absorb(&mut self, update: &Update) -> Result<(), Refusal> {
+    fn absorb(&mut self, update: &Update) -> Result<(), Refusal>
+        ensures ok { OnOk result (self.new.state ≡ multi_meaning.after self.old.state update.now) }
+        ensures error { IfErr result (λ e. e ≡ Memory) }
+        ensures err { OnErr result (self.new.state ≡ self.old.state) }
+    {
         let Some(own) = own_bytes(&update.op) else {
             return Ok(());
         };

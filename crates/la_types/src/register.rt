@@ -1,4 +1,4 @@
-ghost use Rattle.std.specs.Prelude.{◌≡◌, None};
+ghost use Rattle.std.specs.Prelude.{◌≡◌, None, IfErr, OnOk, OnErr};
 
 use crate::bytes::behind;
 use crate::write::{stamp_in, take};
@@ -30,6 +30,7 @@ impl Register {
 
 impl Absorbs for Register {
     ghost use Rattle.la_types.specs.Registers.{register_meaning};
+    ghost use Rattle.la_shelf.specs.declared.error.Refusal.TheVariants.{Memory};
     ghost use Rattle.la_types.specs.RegisterLaws.{register_lawful};
 
     type Kind = ();
@@ -48,7 +49,11 @@ impl Absorbs for Register {
         self.last.is_none()
     }
 
-    fn absorb(&mut self, update: &Update) -> Result<(), Refusal> {
+    fn absorb(&mut self, update: &Update) -> Result<(), Refusal>
+        ensures ok { OnOk result (self.new.last ≡ register_meaning.after self.old.last update.now) }
+        ensures error { IfErr result (λ e. e ≡ Memory) }
+        ensures err { OnErr result (self.new.last ≡ self.old.last) }
+    {
         let Some(own) = own_bytes(&update.op) else {
             return Ok(());
         };

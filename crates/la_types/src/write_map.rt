@@ -1,4 +1,4 @@
-ghost use Rattle.std.specs.Prelude.{◌≡◌, Some, IfOk, IfErr};
+ghost use Rattle.std.specs.Prelude.{◌≡◌, Some, IfOk, IfErr, OnOk, OnErr};
 ghost use Rattle.std.specs.FinMap as map;
 ghost use Rattle.la_set.specs.declared.update.UpdateId.{UpdateId as Id};
 ghost use Rattle.la_types.specs.Keyed.{keyed_op, keyed_of};
@@ -61,6 +61,7 @@ impl WriteMap {
 
 impl Absorbs for WriteMap {
     ghost use Rattle.la_types.specs.WriteMaps.{write_map_meaning};
+    ghost use Rattle.la_shelf.specs.declared.error.Refusal.TheVariants.{Memory};
     ghost use Rattle.la_types.specs.WriteMapLaws.{write_map_lawful};
 
     type Kind = ();
@@ -79,7 +80,11 @@ impl Absorbs for WriteMap {
         self.last.is_empty()
     }
 
-    fn absorb(&mut self, update: &Update) -> Result<(), Refusal> {
+    fn absorb(&mut self, update: &Update) -> Result<(), Refusal>
+        ensures ok { OnOk result (self.new.last ≡ write_map_meaning.after self.old.last update.now) }
+        ensures error { IfErr result (λ e. e ≡ Memory) }
+        ensures err { OnErr result (self.new.last ≡ self.old.last) }
+    {
         let Some(own) = own_bytes(&update.op) else {
             return Ok(());
         };
