@@ -5,6 +5,7 @@ use Rattle.la_own.specs.declared.error.OwnError.TheVariants.{TooLong, Memory}
 use Rattle.la_types.specs.declared.write.TheConstants.{REGISTER_BYTES}
 use Rattle.la_types.specs.declared.multi.TheConstants.{MULTI_BYTES}
 use Rattle.la_types.specs.declared.write_map.TheConstants.{KEYED_BYTES}
+use Rattle.la_types.specs.declared.counter_map.TheConstants.{COUNTER_KEY_BYTES}
 
 abbrev pub IsWriteRefusal : List ℕ → OwnError → Type 0
 IsWriteRefusal value TooLong = REGISTER_BYTES < length value
@@ -17,3 +18,7 @@ IsKeyedRefusal key value Memory = length key + length value ≤ KEYED_BYTES
 abbrev pub IsMultiRefusal : List ℕ → OwnError → Type 0
 IsMultiRefusal value TooLong = MULTI_BYTES < length value
 IsMultiRefusal value Memory = length value ≤ MULTI_BYTES
+
+abbrev pub IsCounterRefusal : List ℕ → OwnError → Type 0
+IsCounterRefusal key TooLong = COUNTER_KEY_BYTES < length key
+IsCounterRefusal key Memory = length key ≤ COUNTER_KEY_BYTES
