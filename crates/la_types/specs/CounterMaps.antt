@@ -136,6 +136,13 @@ amount_of _ = 0
 abbrev pub total_kept : List KeptCount → ℕ
 total_kept ks = sum_by (λ (k : KeptCount). amount_of k.does) ks
 
+-- the same of what is kept by replica
+abbrev pub plus_amount : ℕ → KeptCount → ℕ
+plus_amount sum k = sum + amount_of k.does
+
+abbrev pub all_amounts : KeptCounters → ℕ
+all_amounts s = fold_kept plus_amount 0 s
+
 abbrev pub counter_meaning : Meaning (Unit {0}) KeptCounters (List ℕ) ℕ
 counter_meaning = record {
   start = λ kind. counter_start;

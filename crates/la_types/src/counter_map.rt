@@ -4,7 +4,7 @@ ghost use Rattle.la_types.specs.Bytes.{plain};
 ghost use Rattle.la_types.specs.CounterMaps.{counter_op, counter_of, counter_read, counter_start};
 ghost use Rattle.la_types.specs.CounterMaps.{counter_step, amount_beyond, amount_of, with_seen};
 ghost use Rattle.la_types.specs.CounterMaps.{key_seen, key_beyond};
-ghost use Rattle.la_types.specs.Refusals.{IsCounterRefusal};
+ghost use Rattle.la_types.specs.Refusals.{IsCounterRefusal, IsKeepRefusal};
 
 use crate::Bytes;
 use crate::bytes::{Written, behind, count_at, counts_in, put_all, put_counts};
@@ -233,6 +233,7 @@ impl CounterState {
     fn keep(&mut self, id: UpdateId, does: CounterOp) -> Result<(), Refusal>
         ensures ok { OnOk result (self.new ≡ counter_step self.old id (Some does)) }
         ensures err { OnErr result (self.new ≡ self.old) }
+        ensures error { IfErr result (IsKeepRefusal self.old does) }
     {
         let kept = KeptCount { id, does };
         let total = self.total.checked_add(kept.amount() as u64);
