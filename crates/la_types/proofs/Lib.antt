@@ -5,3 +5,5 @@ mod FiniteMaps
 mod KeyedCopies
 mod KeyedBytes
 mod MultiBytes
+mod CounterBytes
+mod Kept

@@ -37,7 +37,7 @@ module _ (op : Op) where
       ap (option_and_then multi_read) (sym is)
       ∙ ap (λ b. cond b (Some (counts_in bytes, drop 32 bytes)) None) (le-leb 32 (length bytes) long)
 
-counts_behind : (seen : Counts) (value : List ℕ)
+pub counts_behind : (seen : Counts) (value : List ℕ)
     → counts_in (counts_bytes seen ++ value) ≡ counts_in (counts_bytes seen)
 unfolding from_counts
 counts_behind seen value = refl

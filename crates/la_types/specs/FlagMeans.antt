@@ -18,7 +18,7 @@ use Rattle.la_types.specs.declared.flag.FlagState.{FlagState}
 use Rattle.la_types.specs.Seen.{up_to, is_update_id, seen_by_either}
 use Rattle.la_types.specs.Flags.{flag_of, flag_start, flag_step, is_ahead, is_flag_on, is_enabling, enables, disables}
 use Rattle.la_types.specs.SeenCounts.{count_in-from, either_swap}
-use Rattle.la_types.specs.Highest.{highest, highest-above, highest-reached, none_any}
+use Rattle.la_types.specs.Highest.{highest, highest-above, highest-reached, none_any, no_more}
 
 pub step_swap : (s : FlagState) (a b : UpdateId) (x y : Option FlagOp)
     → flag_step (flag_step s a x) b y ≡ flag_step (flag_step s b y) a x
@@ -46,9 +46,6 @@ seen_number r None = 0
 either_at : (one other : Counts) (r : ℕ) → r < 8
     → count_in (seen_by_either one other) r ≡ max (count_in one r) (count_in other r)
 either_at one other r lt = count_in-from (λ q. max (count_in one q) (count_in other q)) r lt
-
-no_more : (n : ℕ) → n ≡ max n 0
-no_more n = omega arith
 
 enabled_at : (r : ℕ) → r < 8 → (s : FlagState) (id : UpdateId) (does : Option FlagOp)
     → count_in (flag_step s id does).enabled r ≡ max (count_in s.enabled r) (on_number r id does)

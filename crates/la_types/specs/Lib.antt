@@ -16,3 +16,5 @@ pub mod WriteMaps
 pub mod WriteMapLaws
 pub mod Multis
 pub mod MultiLaws
+pub mod CounterMaps
+pub mod CounterMapLaws

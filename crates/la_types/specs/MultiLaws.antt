@@ -1,5 +1,5 @@
 -- The register that keeps what was written at the same time is a lawful type.
-use Rattle.std.proofs.Common.{◌≡◌, ◌≢◌, ℕ, zero, suc, ◌<◌, ◌==◌, nat_le, nat_lt, max, Bool, true, false, not, ◌&&◌}
+use Rattle.std.proofs.Common.{◌≡◌, ◌≢◌, ℕ, zero, suc, ◌<◌, ◌==◌, nat_le, nat_lt, max, not, ◌&&◌}
 use Rattle.std.proofs.Common.{◌||◌, cond, List, [], ◌∷◌, length, get_or, set, replicate, fold, Option, Some, None}
 use Rattle.std.proofs.Common.{refl, ap, sym, ◌∙◌, inl, inr, arith}
 use Rattle.std.specs.List.{list_any, filter_map, cons_option, last_or}
@@ -12,7 +12,7 @@ use Rattle.la_shelf.specs.Meanings.{IsLawful}
 use Rattle.la_types.specs.declared.multi.Entry.{Entry}
 use Rattle.la_types.specs.declared.multi.MultiState.{MultiState}
 use Rattle.la_types.specs.SeenCounts.{count_in-from, either_swap}
-use Rattle.la_types.specs.Highest.{highest}
+use Rattle.la_types.specs.Highest.{highest, any_highest, same_any, no_more}
 use Rattle.la_types.specs.Multis.{Seeing, multi_of, entry_of, entry_by, last_by, sees, seen_by_some, unseen}
 use Rattle.la_types.specs.Multis.{multi_value, multi_start, multi_step, beyond_seen, multi_reply, multi_meaning}
 
@@ -71,9 +71,6 @@ seen_number : ℕ → Option Seeing → ℕ
 seen_number r None = 0
 seen_number r (Some x) = count_in x.0 r
 
-no_more : (n : ℕ) → n ≡ max n 0
-no_more n = omega arith
-
 seen_after : (r : ℕ) → r < 8 → (s : MultiState) (id : UpdateId) (o : Option Seeing)
     → count_in (multi_step s id o).seen r ≡ max (count_in s.seen r) (seen_number r o)
 unfolding seen_number
@@ -97,30 +94,6 @@ sees_number : (r n : ℕ) (o : Option Seeing) → 0 < n → sees (record {
 unfolding seen_number
 sees_number r n None more = sym (lt-leb n 0 more)
 sees_number r n (Some x) more = refl
-
-le_max : (n a b : ℕ) → nat_le n (max a b) ≡ (nat_le n a || nat_le n b)
-le_max n a b = grind arith
-
-or_assoc : (a b c : Bool) → ((a || b) || c) ≡ (a || (b || c))
-or_assoc true b c = refl
-or_assoc false b c = refl
-
-any_highest : (f : Update → ℕ) (n b : ℕ) (us : List Update)
-    → nat_le n (highest f b us) ≡ (nat_le n b || list_any (λ u. nat_le n (f u)) us)
-unfolding highest
-any_highest f n b [] = or_false (nat_le n b)
-  where
-    or_false : (t : Bool) → t ≡ (t || false)
-    or_false true = refl
-    or_false false = refl
-any_highest f n b (u ∷ us) =
-    any_highest f n (max b (f u)) us
-    ∙ ap (λ t. t || list_any (λ v. nat_le n (f v)) us) (le_max n b (f u))
-    ∙ or_assoc (nat_le n b) (nat_le n (f u)) (list_any (λ v. nat_le n (f v)) us)
-
-same_any : (p q : Update → Bool) (us : List Update) → ((u : Update) → p u ≡ q u) → list_any p us ≡ list_any q us
-same_any p q [] same = refl
-same_any p q (u ∷ us) same = λ i. same u i || same_any p q us same i
 
 -- ## The values
 

@@ -1,10 +1,15 @@
 -- When a call is refused, and how: by cases over the error.
-use Rattle.std.specs.Prelude.{ℕ, ◌+◌, ◌<◌, ◌≤◌, List, length}
+use Rattle.std.specs.Prelude.{ℕ, ◌+◌, ◌^◌, ◌<◌, ◌≤◌, List, length}
 use Rattle.la_own.specs.declared.error.OwnError.{OwnError}
 use Rattle.la_own.specs.declared.error.OwnError.TheVariants.{TooLong, Memory}
+use Rattle.la_shelf.specs.declared.error.Refusal.{Refusal}
+use Rattle.la_shelf.specs.declared.error.Refusal.TheVariants as why
+use Rattle.la_types.specs.declared.counter_map.CounterOp.{CounterOp}
+use Rattle.la_types.specs.CounterMaps.{KeptCounters, amount_of, all_amounts}
 use Rattle.la_types.specs.declared.write.TheConstants.{REGISTER_BYTES}
 use Rattle.la_types.specs.declared.multi.TheConstants.{MULTI_BYTES}
 use Rattle.la_types.specs.declared.write_map.TheConstants.{KEYED_BYTES}
+use Rattle.la_types.specs.declared.counter_map.TheConstants.{COUNTER_KEY_BYTES}
 
 abbrev pub IsWriteRefusal : List ℕ → OwnError → Type 0
 IsWriteRefusal value TooLong = REGISTER_BYTES < length value
@@ -17,3 +22,12 @@ IsKeyedRefusal key value Memory = length key + length value ≤ KEYED_BYTES
 abbrev pub IsMultiRefusal : List ℕ → OwnError → Type 0
 IsMultiRefusal value TooLong = MULTI_BYTES < length value
 IsMultiRefusal value Memory = length value ≤ MULTI_BYTES
+
+abbrev pub IsCounterRefusal : List ℕ → OwnError → Type 0
+IsCounterRefusal key TooLong = COUNTER_KEY_BYTES < length key
+IsCounterRefusal key Memory = length key ≤ COUNTER_KEY_BYTES
+
+-- an operation is not kept: all amounts would be above what a u64 holds, or there is no memory
+abbrev pub IsKeepRefusal : KeptCounters → CounterOp → Refusal → Type 0
+IsKeepRefusal s does why.Full = 2 ^ 64 ≤ all_amounts s + amount_of does
+IsKeepRefusal s does why.Memory = Unit {0}

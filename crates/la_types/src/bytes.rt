@@ -50,7 +50,8 @@ pub fn counts_in(bytes: &[u8]) -> Counts
     ])
 }
 
-fn count_at(bytes: &[u8], from: usize) -> u32
+// The four bytes from a place on, as a number.
+pub fn count_at(bytes: &[u8], from: usize) -> u32
     requires { from + 4 ≤ length bytes.now }
     ensures { result ≡ from_le_bytes w32 (drop from bytes.now) }
 {

@@ -5,6 +5,7 @@
 #![tactic(auto)]
 
 mod bytes;
+mod counter_map;
 mod data;
 mod flag;
 mod keyed;
@@ -14,6 +15,7 @@ mod register;
 mod write;
 mod write_map;
 
+pub use counter_map::{COUNTER_KEY_BYTES, CounterMap, CounterOp, CounterState, add_op, reset_op};
 pub use data::Bytes;
 pub use flag::{Flag, FlagOp, FlagState};
 pub use keyed::KeyedWrites;

@@ -3,11 +3,11 @@ use crate::again;
 use crate::given::{Came, id, refused};
 use crate::holds::holds;
 use la_own::OwnError;
-use la_set::{Counts, Op, Update};
+use la_set::{Counts, Op, Update, UpdateId};
 use la_shelf::{Absorbs, Refusal};
 use la_types::{
-    Bytes, FlagOp, KeyedWrites, MultiRegister, Register, Write, WriteMap, keyed_op, multi_op,
-    write_op,
+    Bytes, CounterMap, CounterOp, FlagOp, KeyedWrites, MultiRegister, Register, Write, WriteMap,
+    add_op, keyed_op, multi_op, reset_op, write_op,
 };
 use std::alloc::Global;
 
@@ -196,13 +196,77 @@ fn a_multi_register(alloc: Global) -> Came {
     )
 }
 
+fn put(alloc: Global) -> Came {
+    match add_op(alloc, 5, KEY) {
+        Ok(op) => Some(again!(alloc, does_of(alloc, &op))?),
+        Err(it) => refused(it == OwnError::Memory),
+    }
+}
+
+fn does_of(alloc: Global, op: &Op) -> Came {
+    match CounterOp::of_op(alloc, op) {
+        Ok(Some(CounterOp::Add { amount, key })) => Some(amount == 5 && key.as_slice() == KEY),
+        Ok(_) => Some(false),
+        Err(_) => refused(true),
+    }
+}
+
+fn take_out(alloc: Global) -> Came {
+    match reset_op(alloc, Counts::zero(), KEY) {
+        Ok(op) => match CounterOp::of_op(alloc, &op) {
+            Ok(Some(CounterOp::Reset { seen, .. })) => Some(seen == Counts::zero()),
+            Ok(_) => Some(false),
+            Err(_) => refused(true),
+        },
+        Err(it) => refused(it == OwnError::Memory),
+    }
+}
+
+fn has_five(map: &CounterMap, key: &Bytes) -> bool {
+    map.ask(key) == Ok(5)
+}
+
+fn counter_state(map: &CounterMap, key: &Bytes) -> Came {
+    match map.state() {
+        Ok(state) => Some(state.beyond(key, state.seen(key)) == 5),
+        Err(_) => refused(has_five(map, key)),
+    }
+}
+
+// One replica adds 3 and then resets as far as it had seen; what another adds at the same time
+// stays, and a refused call leaves the counters as they were.
+fn a_counter_map(alloc: Global) -> Came {
+    let first = made(add_op(alloc, 3, KEY))?;
+    let other = made(add_op(alloc, 5, KEY))?;
+    let reset = made(reset_op(alloc, Counts::from([0, 0, 0, 0, 0, 0, 0, 1]), KEY))?;
+    let key = Bytes::of(alloc, KEY).ok()?;
+    let mut map = CounterMap::new(alloc);
+    if !absorb(&mut map, first)? {
+        return Some(false);
+    }
+    if map.ask(&key) != Ok(3) {
+        return Some(false);
+    }
+    absorb_of(&mut map, id(6, 1), other)?;
+    absorb_of(&mut map, id(7, 2), reset)?;
+    Some(has_five(&map, &key) && again!(alloc, counter_state(&map, &key))?)
+}
+
+// An object absorbs the update with an id.
+fn absorb_of(map: &mut CounterMap, id: UpdateId, op: Op) -> Option<()> {
+    map.absorb(&Update { id, object: 1, op }).ok()
+}
+
 fn scenes(alloc: Global) -> Came {
     Some(
         again!(alloc, disable(alloc))?
             && again!(alloc, data(alloc))?
             && again!(alloc, a_register(alloc))?
             && again!(alloc, a_map(alloc))?
-            && again!(alloc, a_multi_register(alloc))?,
+            && again!(alloc, a_multi_register(alloc))?
+            && again!(alloc, put(alloc))?
+            && again!(alloc, take_out(alloc))?
+            && again!(alloc, a_counter_map(alloc))?,
     )
 }
 

@@ -3,6 +3,7 @@
 //! for word.
 #![tactic(auto)]
 
+pub mod carts;
 pub mod counters;
 pub mod flags;
 pub mod maps;
