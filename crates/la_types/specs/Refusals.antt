@@ -1,5 +1,5 @@
 -- When a call is refused, and how: by cases over the error.
-use Rattle.std.specs.Prelude.{ℕ, ◌+◌, ◌^◌, ◌<◌, ◌≤◌, List, length}
+use Rattle.std.specs.Prelude.{ℕ, ◌+◌, ◌^◌, ◌<◌, ◌≤◌, List, length, Option, IsSomeAnd}
 use Rattle.la_own.specs.declared.error.OwnError.{OwnError}
 use Rattle.la_own.specs.declared.error.OwnError.TheVariants.{TooLong, Memory}
 use Rattle.la_shelf.specs.declared.error.Refusal.{Refusal}
@@ -31,3 +31,8 @@ IsCounterRefusal key Memory = length key ≤ COUNTER_KEY_BYTES
 abbrev pub IsKeepRefusal : KeptCounters → CounterOp → Refusal → Type 0
 IsKeepRefusal s does why.Full = 2 ^ 64 ≤ all_amounts s + amount_of does
 IsKeepRefusal s does why.Memory = Unit {0}
+
+-- an update is not absorbed: what it does is not kept, if it does anything here, or there is no memory to read it
+abbrev pub IsCountingRefusal : KeptCounters → Option CounterOp → Refusal → Type 0
+IsCountingRefusal s o why.Full = IsSomeAnd o (λ does. 2 ^ 64 ≤ all_amounts s + amount_of does)
+IsCountingRefusal s o why.Memory = Unit {0}

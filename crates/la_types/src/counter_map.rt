@@ -4,7 +4,7 @@ ghost use Rattle.la_types.specs.Bytes.{plain};
 ghost use Rattle.la_types.specs.CounterMaps.{counter_op, counter_of, counter_read, counter_start};
 ghost use Rattle.la_types.specs.CounterMaps.{counter_step, amount_beyond, amount_of, with_seen};
 ghost use Rattle.la_types.specs.CounterMaps.{key_seen, key_beyond};
-ghost use Rattle.la_types.specs.Refusals.{IsCounterRefusal, IsKeepRefusal};
+ghost use Rattle.la_types.specs.Refusals.{IsCounterRefusal, IsKeepRefusal, IsCountingRefusal};
 
 use crate::Bytes;
 use crate::bytes::{Written, behind, count_at, counts_in, put_all, put_counts};
@@ -314,7 +314,11 @@ impl Absorbs for CounterMap {
         self.state.is_empty()
     }
 
-    fn absorb(&mut self, update: &Update) -> Result<(), Refusal> {
+    fn absorb(&mut self, update: &Update) -> Result<(), Refusal>
+        ensures ok { OnOk result (self.new.state ≡ counter_meaning.after self.old.state update.now) }
+        ensures error { IfErr result (IsCountingRefusal self.old.state (counter_of update.now.op)) }
+        ensures err { OnErr result (self.new.state ≡ self.old.state) }
+    {
         match CounterOp::of_op(self.alloc, &update.op)? {
             Some(does) => self.state.keep(update.id, does),
             None => Ok(()),
