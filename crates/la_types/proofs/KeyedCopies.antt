@@ -4,7 +4,7 @@ use Rattle.std.specs.FinMap as map
 use Rattle.la_types.specs.declared.write.Write.{Write}
 use Rattle.la_types.specs.Keyed.{KeyedWrites, Keyed, or_later, is_last, with_keyed}
 use Rattle.la_types.specs.KeyOrder.{key_total, key_tied}
-use Rattle.la_types.proofs.FiniteMaps.{put_again, all_put as put_all}
+use Rattle.la_types.proofs.lemmas.FiniteMaps.{put_again, all_put as put_all}
 
 abbrev pub all_put : KeyedWrites → List Keyed → KeyedWrites
 all_put m es = put_all key_total key_tied m es
