@@ -3,7 +3,7 @@ use Rattle.std.specs.Option.{IsSome}
 use Rattle.std.specs.FinMap as map
 use Rattle.la_types.specs.Keyed.{or_later}
 use Rattle.la_types.specs.KeyOrder.{key_total, key_tied}
-use Rattle.la_types.proofs.FiniteMaps.{get-lookup, one_put}
+use Rattle.la_types.proofs.lemmas.FiniteMaps.{get-lookup, one_put}
 use Rattle.la_types.proofs.keyed.KeyedWrites.take.Goals as goal
 
 pub returns-in-Some-clause-ok : goal.returns-in-Some-clause-ok

@@ -110,3 +110,10 @@ module _ {K X : Type 0} {R : K → K → Ordering} (o : IsTotalOrder R) where
     all_put-from_entries es h = map.same_map o tied _ _ (λ q.
         get-all_put map.empty es q h ∙ ap (or_else (find R q es)) (map.get-empty R q) ∙ or_none _
         ∙ sym (map.get-from_entries o es q))
+
+    -- a map of entries in strict order has them in that order
+    pub entries-from_entries : (es : List (K × X)) → T (is_sorted R es) → map.entries (map.from_entries {R = R} es) ≡ es
+    entries-from_entries es h =
+        ap map.entries (map.same_map o tied (map.from_entries es) (map.from_sorted es) (λ q.
+        map.get-from_entries o es q ∙ sym (map.get-from_sorted R es q h)))
+        ∙ map.entries-from_sorted R es h
