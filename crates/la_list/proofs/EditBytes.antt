@@ -1,5 +1,5 @@
 -- What is done to a list comes back from what was submitted.
-use Rattle.std.proofs.Common.{◌≡◌, ℕ, ◌+◌, ◌<◌, ◌≤◌, ◌^◌, ◌==◌, nat_le, Bool, true, false, ◌&&◌, cond, List, ◌∷◌, ◌++◌}
+use Rattle.std.proofs.Common.{◌≡◌, ℕ, ◌<◌, ◌^◌, ◌==◌, nat_le, Bool, false, ◌&&◌, cond, List}
 use Rattle.std.proofs.Common.{length, drop, slice_index, Option, Some, None, IfSome, Result, Ok, Err, IsOk, IfOk, refl, ap, ◌∙◌}
 use Rattle.std.proofs.Common.{arith}
 use Rattle.std.specs.Option.{option_and_then}

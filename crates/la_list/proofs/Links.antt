@@ -2,19 +2,19 @@
 use Rattle.std.proofs.Common.{◌≡◌, ℕ, zero, suc, ◌+◌, ◌<◌, ◌++◌, take, drop, not, Bool, true, false, ◌||◌, cond, List, [], ◌∷◌, length, is_some, Option}
 use Rattle.std.proofs.Common.{Some, None, refl, ap, sym, ◌∙◌, subst, inl, inr, arith}
 use Rattle.std.proofs.lemmas.Bool.{cases_Bool, or_parts, or_from, or_right, false_from_ne_true, false≢true}
-use Rattle.std.proofs.lemmas.Option.{same_Some, none-some}
+use Rattle.std.proofs.lemmas.Option.{same_Some}
 use Rattle.std.proofs.lemmas.List.Elements.{filter-append}
-use Rattle.std.specs.BTreeMap.{BTreeMap, get, is_at, btree_map_len}
+use Rattle.std.specs.HashMap.{hash_map_len}
 use Rattle.std.specs.FinSet as set
 use Rattle.la_set.specs.declared.update.UpdateId.{UpdateId}
 use Rattle.la_set.specs.Ids.{id_eq}
 use Rattle.la_list.specs.declared.chain.Chain.{Chain}
 use Rattle.la_list.specs.declared.chain.Link.{Link}
 use Rattle.la_list.specs.declared.list.Element.{Element}
-use Rattle.la_list.specs.Orders.{IdSet, id_order}
-use Rattle.la_list.specs.Lists.{stands, put_after, shown}
+use Rattle.la_list.specs.Orders.{SetOfIds}
+use Rattle.la_list.specs.Lists.{stands, put_after, but_deleted}
 use Rattle.la_list.specs.Chains.{IsLink, IsLinked, AreApart, IsChain, link_at}
-use Rattle.la_list.specs.IdTests.{tied_ids, same_id, id_itself, other_id}
+use Rattle.la_list.specs.IdTests.{tested_id, id_itself, other_id}
 
 abbrev Links : Type 0
 Links = UpdateId → Option Link
@@ -128,7 +128,7 @@ module _ (before : UpdateId) (new : Element) where
         let parts = or_parts (id_eq e.id new.id) (stands es new.id) none in
         elim (cases_Bool (id_eq e.id before)) [
           | inl t ↦
-              let one = same_id e.id before t in
+              let one = tested_id e.id before t in
               let old : IsLink e linked.0 (Some link) = subst (IsLink e linked.0) (ap at one ∙ there) linked.1.1 in
               let moves : IsLink e (Some new.id) (more e.id) =
               subst (IsLink e (Some new.id)) (sym (ap more one ∙ moved)) (old.0, refl) in
@@ -153,45 +153,43 @@ one_or : (b : Bool) (link : Link) (o : Option Link) → is_some (cond b (Some li
 one_or true link o = refl
 one_or false link o = refl
 
--- the map m is n with a link at an id
-abbrev pub HasLink : BTreeMap UpdateId Link → UpdateId → Link → BTreeMap UpdateId Link → Type 0
-HasLink n id link m = (q : UpdateId) → get id_order m q ≡ cond (is_at (id_order id) q) (Some link) (get id_order n q)
+-- a chain has the links of another, and one at an id
+abbrev pub HasLink : Chain → UpdateId → Link → Chain → Type 0
+HasLink n id link m = (q : UpdateId) → link_at m q ≡ cond (id_eq id q) (Some link) (link_at n q)
 
-module _ (n : BTreeMap UpdateId Link) (id : UpdateId) (link : Link) (m : BTreeMap UpdateId Link) (has : HasLink n id link m) where
-  by_test : (q : UpdateId) → get id_order m q ≡ cond (id_eq id q) (Some link) (get id_order n q)
-  by_test q = has q ∙ ap (λ b. cond b (Some link) (get id_order n q)) (tied_ids id q)
+module _ (n : Chain) (id : UpdateId) (link : Link) (m : Chain) (has : HasLink n id link m) where
+  at_id : link_at m id ≡ Some link
+  at_id = has id ∙ ap (λ b. cond b (Some link) (link_at n id)) (id_itself id)
 
-  at_id : get id_order m id ≡ Some link
-  at_id = by_test id ∙ ap (λ b. cond b (Some link) (get id_order n id)) (id_itself id)
+  at_others : (q : UpdateId) → id_eq q id ≡ false → link_at m q ≡ link_at n q
+  at_others q not = has q ∙ ap (λ b. cond b (Some link) (link_at n q)) (other_id q id not)
 
-  at_others : (q : UpdateId) → id_eq q id ≡ false → get id_order m q ≡ get id_order n q
-  at_others q not = by_test q ∙ ap (λ b. cond b (Some link) (get id_order n q)) (other_id q id not)
-
-  found : (q : UpdateId) → is_some (get id_order m q) ≡ (id_eq id q || is_some (get id_order n q))
-  found q = ap is_some (by_test q) ∙ one_or (id_eq id q) link (get id_order n q)
+  found : (q : UpdateId) → is_some (link_at m q) ≡ (id_eq id q || is_some (link_at n q))
+  found q = ap is_some (has q) ∙ one_or (id_eq id q) link (link_at n q)
 
 -- how many links there are, once one more is put at an id
-abbrev pub IsCounted : BTreeMap UpdateId Link → UpdateId → BTreeMap UpdateId Link → Type 0
-IsCounted n id m = btree_map_len m ≡ btree_map_len n + cond (is_some (get id_order n id)) 0 1
+abbrev pub IsCounted : Chain → UpdateId → Chain → Type 0
+IsCounted n id m = hash_map_len m.links ≡ hash_map_len n.links + cond (is_some (link_at n id)) 0 1
 
 module _ (c : Chain) (es : List Element) (is : IsChain c es) (new : Element) (none : stands es new.id ≡ false) where
   absent : is_some (link_at c new.id) ≡ false
   absent = is.known new.id ∙ none
 
-  one_more : (m : BTreeMap UpdateId Link) → IsCounted c.links new.id m → btree_map_len m ≡ suc (length es)
-  one_more m counted = omega (arith, counted ∙ ap (λ b. btree_map_len c.links + cond b 0 1) absent, is.count)
+  one_more : (m : Chain) → IsCounted c new.id m → hash_map_len m.links ≡ suc (length es)
+  one_more m counted =
+      omega (arith, counted ∙ ap (λ b. hash_map_len c.links + cond b 0 1) absent, is.count)
 
-  pub first_chain : (link : Link) (m : BTreeMap UpdateId Link) → IsLink new c.first (Some link)
-      → HasLink c.links new.id link m → IsCounted c.links new.id m
-      → IsChain (record { first = Some new.id; links = m }) (new ∷ es)
-  first_chain link m is_link has counted = record {
-    linked = first_linked (link_at c) (get id_order m) new c.first
-        (subst (IsLink new c.first) (sym (at_id c.links new.id link m has)) is_link) es none
-        (at_others c.links new.id link m has) is.linked;
-    apart = (none, is.apart);
-    known = λ q. found c.links new.id link m has q ∙ ap (λ b. id_eq new.id q || b) (is.known q);
-    count = one_more m counted;
-  }
+  pub first_chain : (link : Link) (m : Chain) → m.first ≡ Some new.id → IsLink new c.first (Some link)
+      → HasLink c new.id link m → IsCounted c new.id m
+      → IsChain m (new ∷ es)
+  first_chain link m begins is_link has counted =
+      let new_is = subst (IsLink new c.first) (sym (at_id c new.id link m has)) is_link in record {
+        linked = subst (λ o. IsLinked (link_at m) o (new ∷ es)) (sym begins)
+            (first_linked (link_at c) (link_at m) new c.first new_is es none (at_others c new.id link m has) is.linked);
+        apart = (none, is.apart);
+        known = λ q. found c new.id link m has q ∙ ap (λ b. id_eq new.id q || b) (is.known q);
+        count = one_more m counted;
+      }
 
   module _ (before : UpdateId) (old : Link) (there : link_at c before ≡ Some old) where
     stands_there : stands es before ≡ true
@@ -199,47 +197,57 @@ module _ (c : Chain) (es : List Element) (is : IsChain c es) (new : Element) (no
 
     apart_ids : (q : UpdateId) → id_eq q before ≡ true → id_eq q new.id ≡ false
     apart_ids q t = false_from_ne_true (id_eq q new.id) (λ s.
-        false≢true (sym none ∙ ap (stands es) (sym (same_id q new.id s) ∙ same_id q before t) ∙ stands_there))
+        let same = sym (tested_id q new.id s) ∙ tested_id q before t in
+        false≢true (sym none ∙ ap (stands es) same ∙ stands_there))
 
-    or_there : (a b : Bool) (q : UpdateId) → id_eq before q ≡ a
-        → (a || (b || stands es q)) ≡ (b || stands es q)
+    or_there : (a b : Bool) (q : UpdateId) → id_eq before q ≡ a → (a || (b || stands es q)) ≡ (b || stands es q)
     or_there false b q is = refl
     or_there true b q is =
-        sym (or_right b (stands es q) (ap (stands es) (sym (same_id before q is)) ∙ stands_there))
+        sym (or_right b (stands es q) (ap (stands es) (sym (tested_id before q is)) ∙ stands_there))
 
-    pub behind_chain : (link : Link) (m k : BTreeMap UpdateId Link) → IsLink new old.next (Some link)
-        → HasLink c.links new.id link m → IsCounted c.links new.id m
-        → HasLink m before (record old { next = Some new.id }) k → IsCounted m before k
-        → IsChain (record { first = c.first; links = k }) (put_after before new es)
-    behind_chain link m k is_link has counted moves again =
-        let moved = record old { next = Some new.id } in
-        let new_is : get id_order k new.id ≡ Some link =
-        at_others m before moved k moves new.id (other_before (id_eq new.id before) refl)
-        ∙ at_id c.links new.id link m has in record {
-          linked = after_linked before new (link_at c) (get id_order k) old there
-              (subst (IsLink new old.next) (sym new_is) is_link) (at_id m before moved k moves)
-              (λ q one two. at_others m before moved k moves q one ∙ at_others c.links new.id link m has q two)
-              es c.first stands_there none is.apart is.linked;
-          apart = after_apart before new es none is.apart;
-          known = λ q.
-              found m before moved k moves q
-              ∙ ap (λ b. id_eq before q || b) (found c.links new.id link m has q
-              ∙ ap (λ b. id_eq new.id q || b) (is.known q))
-              ∙ or_there (id_eq before q) (id_eq new.id q) q refl
-              ∙ ap (λ b. cond b (id_eq new.id q || stands es q) (stands es q)) (sym stands_there)
-              ∙ sym (stands_before before new es q (stands es before) refl);
-          count = again
-              ∙ ap (λ b. btree_map_len m + cond b 0 1) (found c.links new.id link m has before
-              ∙ or_right (id_eq new.id before) _ (is.known before ∙ stands_there))
-              ∙ no_more (btree_map_len m) ∙ one_more m counted ∙ sym (longer before new es stands_there);
-        }
-      where
-        no_more : (n : ℕ) → n + 0 ≡ n
-        no_more n = omega arith
+    not_before : (b : Bool) → id_eq new.id before ≡ b → id_eq new.id before ≡ false
+    not_before true t = absurd (false≢true (sym (apart_ids new.id t) ∙ id_itself new.id))
+    not_before false f = f
 
-        other_before : (b : Bool) → id_eq new.id before ≡ b → id_eq new.id before ≡ false
-        other_before true t = absurd (false≢true (sym (apart_ids new.id t) ∙ id_itself new.id))
-        other_before false f = f
+    no_more : (n : ℕ) → n + 0 ≡ n
+    no_more n = omega arith
+
+    module _ (link : Link) (m k : Chain) (has : HasLink c new.id link m) (counted : IsCounted c new.id m)
+        (moves : HasLink m before (record old { next = Some new.id }) k) (again : IsCounted m before k) where
+      abbrev moved : Link
+      moved = record old { next = Some new.id }
+
+      stands_after : (q : UpdateId) → is_some (link_at k q) ≡ stands (put_after before new es) q
+      stands_after q =
+          found m before moved k moves q
+          ∙ ap (λ b. id_eq before q || b)
+          (found c new.id link m has q ∙ ap (λ b. id_eq new.id q || b) (is.known q))
+          ∙ or_there (id_eq before q) (id_eq new.id q) q refl
+          ∙ ap (λ b. cond b (id_eq new.id q || stands es q) (stands es q)) (sym stands_there)
+          ∙ sym (stands_before before new es q (stands es before) refl)
+
+      count_after : hash_map_len k.links ≡ length (put_after before new es)
+      count_after =
+          again
+          ∙ ap (λ b. hash_map_len m.links + cond b 0 1)
+          (found c new.id link m has before
+          ∙ or_right (id_eq new.id before) _ (is.known before ∙ stands_there))
+          ∙ no_more (hash_map_len m.links) ∙ one_more m counted ∙ sym (longer before new es stands_there)
+
+      pub behind_chain : k.first ≡ c.first → IsLink new old.next (Some link) → IsChain k (put_after before new es)
+      behind_chain begins is_link =
+          let new_is : link_at k new.id ≡ Some link =
+          at_others m before moved k moves new.id (not_before (id_eq new.id before) refl) ∙ at_id c new.id link m has in
+          let same : (q : UpdateId) → id_eq q before ≡ false → id_eq q new.id ≡ false → link_at k q ≡ link_at c q =
+          λ q one two. at_others m before moved k moves q one ∙ at_others c new.id link m has q two in record {
+            linked = subst (λ o. IsLinked (link_at k) o (put_after before new es)) (sym begins)
+                (after_linked before new (link_at c) (link_at k) old there
+                (subst (IsLink new old.next) (sym new_is) is_link) (at_id m before moved k moves) same es c.first
+                stands_there none is.apart is.linked);
+            apart = after_apart before new es none is.apart;
+            known = stands_after;
+            count = count_after;
+          }
 
 pub not_there : (before : UpdateId) (new : Element) (es : List Element) → stands es before ≡ false
     → es ≡ put_after before new es
@@ -301,6 +309,6 @@ step_is at first es k s id link is there =
     )
 
 -- what shows of one element more
-pub one_shown : (deleted : IdSet) (es fs : List Element) (e : Element) → fs ≡ es ++ e ∷ []
-    → shown deleted fs ≡ shown deleted es ++ cond (not (set.contains deleted e.id)) (e ∷ []) []
-one_shown deleted es fs e is = ap (shown deleted) is ∙ filter-append (λ (f : Element). not (set.contains deleted f.id)) es (e ∷ [])
+pub one_shown : (deleted : SetOfIds) (es fs : List Element) (e : Element) → fs ≡ es ++ e ∷ []
+    → but_deleted deleted fs ≡ but_deleted deleted es ++ cond (not (set.contains deleted e.id)) (e ∷ []) []
+one_shown deleted es fs e is = ap (but_deleted deleted) is ∙ filter-append (λ (f : Element). not (set.contains deleted f.id)) es (e ∷ [])

@@ -1,11 +1,11 @@
 -- Elements as a linked list: the first id, and at each id what stands there and the id behind it.
-use Rattle.std.specs.Prelude.{◌≡◌, false, Bool, List, [], ◌∷◌, length, is_some, Option, Some, None}
-use Rattle.std.specs.BTreeMap.{get, btree_map_len}
+use Rattle.std.specs.Prelude.{◌≡◌, false, List, [], ◌∷◌, length, is_some, Option, Some, None}
+use Rattle.std.specs.HashMap.{get, hash_map_len}
 use Rattle.la_set.specs.declared.update.UpdateId.{UpdateId}
+use Rattle.la_set.specs.Ids.{id_eq}
 use Rattle.la_list.specs.declared.chain.Chain.{Chain}
 use Rattle.la_list.specs.declared.chain.Link.{Link}
 use Rattle.la_list.specs.declared.list.Element.{Element}
-use Rattle.la_list.specs.Orders.{id_order}
 use Rattle.la_list.specs.Lists.{stands}
 
 -- the link of an element, before the next one
@@ -26,10 +26,10 @@ AreApart (e ∷ es) = (stands es e.id ≡ false) × AreApart es
 
 -- the link at an id
 abbrev pub link_at : Chain → UpdateId → Option Link
-link_at c id = get id_order c.links id
+link_at c id = get id_eq c.links id
 
 pub record IsChain (c : Chain) (es : List Element) : Type 0 where
   pub linked : IsLinked (link_at c) c.first es
   pub apart : AreApart es
   pub known : (id : UpdateId) → is_some (link_at c id) ≡ stands es id
-  pub count : btree_map_len c.links ≡ length es
+  pub count : hash_map_len c.links ≡ length es

@@ -14,11 +14,11 @@ tied_ids x y =
     sym (both_tied (x.replica == y.replica) (x.number == y.number) (nat_cmp x.replica y.replica)
     (nat_cmp x.number y.number) (unsigned_ties x.replica y.replica) (unsigned_ties x.number y.number))
 
-pub same_id : (x y : UpdateId) → id_eq x y ≡ true → x ≡ y
-same_id x y = (id_eq-Decides x y).0
+pub tested_id : (x y : UpdateId) → id_eq x y ≡ true → x ≡ y
+tested_id x y = (id_eq-Decides x y).0
 
 pub id_itself : (x : UpdateId) → id_eq x x ≡ true
 id_itself x = (id_eq-Decides x x).1 refl
 
 pub other_id : (x y : UpdateId) → id_eq x y ≡ false → id_eq y x ≡ false
-other_id x y not = false_from_ne_true (id_eq y x) (λ t. false≢true (sym not ∙ (id_eq-Decides x y).1 (sym (same_id y x t))))
+other_id x y not = false_from_ne_true (id_eq y x) (λ t. false≢true (sym not ∙ (id_eq-Decides x y).1 (sym (tested_id y x t))))

@@ -14,10 +14,10 @@ use Rattle.la_list.specs.declared.list.Element.{Element}
 use Rattle.la_list.specs.declared.list.ListState.{ListState}
 use Rattle.la_list.specs.declared.op.ListOp.{ListOp}
 use Rattle.la_list.specs.declared.op.ListOp.TheVariants.{Insert, Delete}
-use Rattle.la_list.specs.Orders.{InsertMap, IdSet, moment_order, id_order, moment_total, moment_tied, id_total, id_tied}
+use Rattle.la_list.specs.Orders.{InsertMap, SetOfIds, moment_order, id_order, moment_total, moment_tied, id_total, id_tied}
 use Rattle.la_list.specs.IdTests.{tied_ids}
 use Rattle.la_list.specs.ListBytes.{edit_of}
-use Rattle.la_list.specs.Lists.{standing, also_put, put_by, takes_out, taken_out, also_out, list_start, list_step}
+use Rattle.la_list.specs.Lists.{in_order, also_put, inserts_of, takes_out, taken_out, also_out, list_start, list_step}
 use Rattle.la_list.specs.Lists.{list_meaning}
 
 -- ## Steps of different replicas commute
@@ -57,7 +57,7 @@ or_swap true true c = refl
 or_swap true false c = refl
 or_swap false b c = refl
 
-two_out : (s : IdSet) (one two : UpdateId) → set.insert (set.insert s one) two ≡ set.insert (set.insert s two) one
+two_out : (s : SetOfIds) (one two : UpdateId) → set.insert (set.insert s one) two ≡ set.insert (set.insert s two) one
 two_out s one two = set.same_set id_total id_tied _ _ (λ q.
     set.contains-insert id_total (set.insert s one) two q
     ∙ ap (λ b. eq_by_cmp id_order q two || b) (set.contains-insert id_total s one q)
@@ -65,7 +65,7 @@ two_out s one two = set.same_set id_total id_tied _ _ (λ q.
     ∙ sym (set.contains-insert id_total (set.insert s two) one q
     ∙ ap (λ b. eq_by_cmp id_order q one || b) (set.contains-insert id_total s two q)))
 
-out_swap : (s : IdSet) (x y : Option ListOp) → also_out (also_out s x) y ≡ also_out (also_out s y) x
+out_swap : (s : SetOfIds) (x y : Option ListOp) → also_out (also_out s x) y ≡ also_out (also_out s y) x
 out_swap s None y = refl
 out_swap s (Some (Insert behind stamp value)) y = refl
 out_swap s (Some (Delete one)) None = refl
@@ -90,7 +90,7 @@ puts_after : (s : ListState) (us : List Update)
 puts_after s [] = refl
 puts_after s (u ∷ us) = puts_after (list_step s u.id (edit_of u.op)) us
 
-out_one : (s : IdSet) (q : UpdateId) (x : Option ListOp)
+out_one : (s : SetOfIds) (q : UpdateId) (x : Option ListOp)
     → set.contains (also_out s x) q ≡ (takes_out q x || set.contains s q)
 out_one s q None = refl
 out_one s q (Some (Insert behind stamp value)) = refl
@@ -122,14 +122,14 @@ or_none true = refl
 or_none false = refl
 
 list_means : (us : List Update)
-    → filter (λ e. not (set.contains (after list_start us).deleted e.id)) (standing (after list_start us).inserts)
-    ≡ filter (λ e. not (taken_out us e.id)) (standing (put_by us))
+    → filter (λ e. not (set.contains (after list_start us).deleted e.id)) (in_order (after list_start us).inserts)
+    ≡ filter (λ e. not (taken_out us e.id)) (in_order (inserts_of us))
 list_means us =
-    same_left _ _ (standing (after list_start us).inserts) (λ e.
+    same_left _ _ (in_order (after list_start us).inserts) (λ e.
     out_after list_start us e.id
     ∙ ap (λ b. taken_out us e.id || b) (set.contains-empty id_order e.id)
     ∙ or_none (taken_out us e.id))
-    ∙ ap (λ m. filter (λ e. not (taken_out us e.id)) (standing m)) (puts_after list_start us)
+    ∙ ap (λ m. filter (λ e. not (taken_out us e.id)) (in_order m)) (puts_after list_start us)
 
 pub list_lawful : IsLawful list_meaning
 list_lawful = record {

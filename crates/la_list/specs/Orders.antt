@@ -24,27 +24,27 @@ moment_order = then_cmp (on (λ moment. moment.stamp) nat_cmp) (on (λ moment. m
 abbrev pub InsertMap : Type 0
 InsertMap = map.FinMap moment_order Insertion
 
-abbrev pub IdSet : Type 0
-IdSet = set.FinSet id_order
+abbrev pub SetOfIds : Type 0
+SetOfIds = set.FinSet id_order
 
 -- ## Codes
 
-abbrev pub id_code : Coded UpdateId
-id_code =
+abbrev pub coded_id : Coded UpdateId
+coded_id =
     code_by (ℕ × ℕ) (coded× coded_ℕ coded_ℕ) (λ id. (id.replica, id.number))
     (λ p. record { replica = p.0; number = p.1 }) (λ _. refl)
 
-abbrev pub ids_code : Coded IdSet
-ids_code = set.code id_code
+abbrev pub ids_code : Coded SetOfIds
+ids_code = set.code coded_id
 
 abbrev pub moment_code : Coded Moment
 moment_code =
-    code_by (ℕ × UpdateId) (coded× coded_ℕ id_code) (λ m. (m.stamp, m.id)) (λ p. record { stamp = p.0; id = p.1 })
+    code_by (ℕ × UpdateId) (coded× coded_ℕ coded_id) (λ m. (m.stamp, m.id)) (λ p. record { stamp = p.0; id = p.1 })
     (λ _. refl)
 
 abbrev pub insertion_code : Coded Insertion
 insertion_code =
-    code_by (Option UpdateId × List ℕ) (coded× (coded_option id_code) (coded_list coded_ℕ))
+    code_by (Option UpdateId × List ℕ) (coded× (coded_option coded_id) (coded_list coded_ℕ))
     (λ i. (i.behind, i.value)) (λ p. record { behind = p.0; value = p.1 }) (λ _. refl)
 
 abbrev pub inserts_code : Coded InsertMap

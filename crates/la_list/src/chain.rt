@@ -1,14 +1,14 @@
-// The elements that stand, as a linked list by their ids.
+// The elements that stand, as a linked list by their ids, in a table of hashes.
 ghost use Rattle.std.specs.Prelude.{◌≡◌, false, List, [], ◌∷◌, IfOk, OnOk};
 ghost use Rattle.la_list.specs.declared.list.Element.{Element as Standing};
-ghost use Rattle.la_list.specs.Lists.{stands, put_after, with_insert, shown};
+ghost use Rattle.la_list.specs.Lists.{stands, put_after, with_insert, but_deleted};
 ghost use Rattle.la_list.specs.Chains.{IsChain};
 
 use crate::{Element, Ids, Insertion};
 use la_set::{Sequence, UpdateId};
 use la_types::Bytes;
 use std::alloc::{AllocError, Global};
-use std::collections::BTreeMap;
+use std::collections::HashMap;
 
 // What stands at an id, and the id behind it.
 #[derive(Clone, Copy)]
@@ -21,18 +21,18 @@ pub struct Link<'a> {
 #[derive(Drop)]
 pub struct Chain<'a> {
     first: Option<UpdateId>,
-    links: BTreeMap<UpdateId, Link<'a>>,
+    links: HashMap<UpdateId, Link<'a>>,
 }
 
 impl<'a> Chain<'a> {
-    // No elements.
-    pub fn new(alloc: Global) -> Chain<'a>
-        ensures { IsChain result [] }
+    // No elements, and room for so many.
+    pub fn with_room(alloc: Global, room: usize) -> Result<Chain<'a>, AllocError>
+        ensures { IfOk result (λ chain. IsChain chain []) }
     {
-        Chain {
+        Ok(Chain {
             first: None,
-            links: BTreeMap::new(alloc),
-        }
+            links: HashMap::with_capacity(alloc, room)?,
+        })
     }
 
     // Puts an element right behind another, where that stands, or at the head, unless its id
@@ -87,7 +87,7 @@ impl<'a> Chain<'a> {
     // The elements in order, but those with some ids.
     pub fn shown(&self, alloc: Global, deleted: &Ids) -> Result<Sequence<Element>, AllocError>
         ensures { (es : List Standing) → IsChain self.now es
-            → IfOk result (λ list. list ≡ shown deleted.now es) }
+            → IfOk result (λ list. list ≡ but_deleted deleted.now es) }
     {
         let mut list = Vec::new(alloc);
         let mut at = self.first;

@@ -13,10 +13,10 @@ pub struct Ids {
 }
 
 impl Model for Ids {
-    ghost use Rattle.la_list.specs.Orders.{IdSet, ids_code};
+    ghost use Rattle.la_list.specs.Orders.{SetOfIds, ids_code};
     ghost use Rattle.std.specs.FinSet as set;
 
-    ghost Value = { IdSet };
+    ghost Value = { SetOfIds };
 
     ghost coded = { ids_code };
 
@@ -25,7 +25,7 @@ impl Model for Ids {
 
 impl Ids {
     /// No ids. It takes no memory.
-    pub fn new(alloc: Global) -> Ids
+    pub(crate) fn new(alloc: Global) -> Ids
         ensures { result ≡ set.empty }
     {
         Ids {
@@ -48,7 +48,7 @@ impl Ids {
     }
 
     /// Puts an id in, at logarithmic cost. After a refusal nothing has changed.
-    pub fn put(&mut self, id: UpdateId) -> Result<(), AllocError>
+    pub(crate) fn put(&mut self, id: UpdateId) -> Result<(), AllocError>
         ensures ok { OnOk result (self.new ≡ set.insert self.old id) }
         ensures err { OnErr result (self.new ≡ self.old) }
     {
@@ -57,7 +57,7 @@ impl Ids {
     }
 
     /// A copy.
-    pub fn copy(&self) -> Result<Ids, AllocError>
+    pub(crate) fn copy(&self) -> Result<Ids, AllocError>
         ensures { IfOk result (λ copy. copy ≡ self.now) }
     {
         Ok(Ids {

@@ -1,7 +1,7 @@
 ghost use Rattle.std.specs.Prelude.{◌≡◌, ◌↔◌, IsTrue, IfOk, OnOk, OnErr};
 ghost use Rattle.std.specs.FinMap as map;
 ghost use Rattle.la_list.specs.Chains.{IsChain};
-ghost use Rattle.la_list.specs.Lists.{standing};
+ghost use Rattle.la_list.specs.Lists.{in_order};
 
 use crate::chain::Chain;
 use la_set::UpdateId;
@@ -27,7 +27,7 @@ pub struct Insertion {
 
 impl Insertion {
     /// A copy, which takes memory.
-    pub fn copy(&self) -> Result<Insertion, AllocError>
+    pub(crate) fn copy(&self) -> Result<Insertion, AllocError>
         ensures { IfOk result (λ copy. copy ≡ self.now) }
     {
         Ok(Insertion {
@@ -56,7 +56,7 @@ impl Model for Inserts {
 
 impl Inserts {
     /// Nothing was put in. It takes no memory.
-    pub fn new(alloc: Global) -> Inserts
+    pub(crate) fn new(alloc: Global) -> Inserts
         ensures { result ≡ map.empty }
     {
         Inserts {
@@ -72,7 +72,7 @@ impl Inserts {
     }
 
     /// Keeps what was put in at a moment, at logarithmic cost. After a refusal nothing has changed.
-    pub fn keep(&mut self, moment: Moment, insertion: Insertion) -> Result<(), AllocError>
+    pub(crate) fn keep(&mut self, moment: Moment, insertion: Insertion) -> Result<(), AllocError>
         ensures ok { OnOk result (self.new ≡ map.insert self.old moment insertion) }
         ensures err { OnErr result (self.new ≡ self.old) }
     {
@@ -81,7 +81,7 @@ impl Inserts {
     }
 
     /// A copy, made one insertion after another.
-    pub fn copy(&self, alloc: Global) -> Result<Inserts, AllocError>
+    pub(crate) fn copy(&self, alloc: Global) -> Result<Inserts, AllocError>
         ensures { IfOk result (λ copy. copy ≡ self.now) }
     {
         let mut copy = Inserts::new(alloc);
@@ -93,9 +93,9 @@ impl Inserts {
 
     // The elements that stand, as a chain.
     pub(crate) fn chain(&self, alloc: Global) -> Result<Chain<'_>, AllocError>
-        ensures { IfOk result (λ chain. IsChain chain (standing self.now)) }
+        ensures { IfOk result (λ chain. IsChain chain (in_order self.now)) }
     {
-        let mut chain = Chain::new(alloc);
+        let mut chain = Chain::with_room(alloc, self.of.len())?;
         for (moment, insertion) in self.of.iter() {
             chain.put(moment.id, insertion)?;
         }

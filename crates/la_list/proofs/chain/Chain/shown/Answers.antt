@@ -1,12 +1,11 @@
-use Rattle.std.proofs.Common.{◌≡◌, append-nil, Bool, ◌+◌, ◌<◌, suc, not, cond, List, [], ◌∷◌, ◌++◌, take, drop, length, is_some, Some}
+use Rattle.std.proofs.Common.{◌≡◌, append-nil, Bool, ◌+◌, ◌<◌, suc, not, cond, [], ◌∷◌, ◌++◌, take, drop, length}
 use Rattle.std.proofs.Common.{ap, sym, ◌∙◌, subst, arith}
 use Rattle.std.proofs.lemmas.List.{take_all}
 use Rattle.std.proofs.lemmas.Option.{same_Some, none-some}
 use Rattle.std.specs.FinSet as set
-use Rattle.la_list.specs.declared.list.Element.{Element}
-use Rattle.la_list.specs.Lists.{shown}
-use Rattle.la_list.specs.Chains.{IsChain, IsLinked, link_at}
-use Rattle.la_list.proofs.Links.{IsStep, step, step_is, one_shown}
+use Rattle.la_list.specs.Lists.{but_deleted}
+use Rattle.la_list.specs.Chains.{IsLinked, link_at}
+use Rattle.la_list.proofs.Links.{step, step_is, one_shown}
 use Rattle.la_list.proofs.chain.Chain.shown.Goals as goal
 use Rattle.la_list.proofs.chain.Chain.shown.Goals.{then-not-has+in_ok-copy+in_ok-push, else-not-has}
 use Rattle.la_list.proofs.chain.Chain.shown.Goals.{else-loop-test, then-loop-test+in_default, then-loop-test+in-Some+in_default-get}
@@ -22,12 +21,12 @@ loop-preserved c = λ es is.
     let lt : k < length es = omega (arith, c.loop-test.true, c.len-end.ensures.len, is.count) in
     let s = step at es k c.loop.at lt inv.0 in
     let both = step_is at c.loop.at es k s id link c.in-Some.is (sym c.in-Some-get.ensures.value) in
-    let more : shown deleted (take (suc k) es) ≡ c.loop.list.items ++ cond (not (set.contains deleted id))
+    let more : but_deleted deleted (take (suc k) es) ≡ c.loop.list.items ++ cond (not (set.contains deleted id))
     (record { id = id; value = link.value.now } ∷ []) [] =
     one_shown deleted (take k es) (take (suc k) es) s.e s.more
     ∙ (λ i. sym inv.1 i ++ cond (not (set.contains deleted (both.0 i).id)) (both.0 i ∷ []) []) in
     let left = λ (b : Bool). c.loop.list.items ++ cond (not b) (record { id = id; value = link.value.now } ∷ []) [] in
-    let items : c.if-not-has.list.items ≡ shown deleted (take (suc k) es) = elim c.if-not-has.branch [
+    let items : c.if-not-has.list.items ≡ but_deleted deleted (take (suc k) es) = elim c.if-not-has.branch [
       | then-not-has+in_ok-copy+in_ok-push w ↦
           ap (λ list. list.items) w.list-is
           ∙ w.in_ok-push.ensures.items
@@ -37,7 +36,7 @@ loop-preserved c = λ es is.
           ap (λ list. list.items) w.list-is
           ∙ sym (more ∙ ap left (sym c.has.ensures ∙ w.if-not-has.false) ∙ append-nil c.loop.list.items)
     ] in
-    subst (λ n. IsLinked at link.next (drop n es) × (c.if-not-has.list.items ≡ shown deleted (take n es)))
+    subst (λ n. IsLinked at link.next (drop n es) × (c.if-not-has.list.items ≡ but_deleted deleted (take n es)))
     {x = suc k} {y = k + 1} (omega arith) (subst (λ l. IsLinked at l.next (drop (suc k) es)) both.1 s.on, items)
 
 pub returns : goal.returns
@@ -48,7 +47,7 @@ returns c = λ es is.
     elim c.loop-test.branch [
       | else-loop-test w ↦
           c.from.ensures ∙ inv.1
-          ∙ ap (shown c.args.deleted.now) (take_all k es (omega (arith, w.loop-test.false, c.len-end.ensures.len, is.count)))
+          ∙ ap (but_deleted c.args.deleted.now) (take_all k es (omega (arith, w.loop-test.false, c.len-end.ensures.len, is.count)))
       | then-loop-test+in_default w ↦
           let s = step at es k c.loop.at (omega (arith, w.loop-test.true, c.len-end.ensures.len, is.count)) inv.0 in
           absurd (none-some s.e.id (sym w.in_default.is ∙ s.here))

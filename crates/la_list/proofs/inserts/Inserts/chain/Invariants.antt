@@ -1,4 +1,4 @@
-use Rattle.std.proofs.Common.{◌≡◌, List, [], fold}
+use Rattle.std.proofs.Common.{◌≡◌, List, []}
 use Rattle.la_list.specs.declared.list.Element.{Element}
 use Rattle.la_list.specs.Chains.{IsChain}
 use Rattle.la_list.proofs.InsertCopies.{all_inserted}
