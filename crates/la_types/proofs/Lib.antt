@@ -1,7 +1,7 @@
 mod CountBytes
 mod FlagBytes
 mod WriteBytes
-mod FiniteMaps
+pub mod lemmas
 mod KeyedCopies
 mod KeyedBytes
 mod MultiBytes

@@ -6,6 +6,7 @@
 pub mod carts;
 pub mod counters;
 pub mod flags;
+pub mod lists;
 pub mod maps;
 pub mod multis;
 pub mod notes;
