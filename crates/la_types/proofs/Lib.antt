@@ -7,3 +7,5 @@ mod KeyedBytes
 mod MultiBytes
 mod CounterBytes
 mod Kept
+mod ElementSets
+mod ElementBytes

@@ -10,6 +10,7 @@ use Rattle.la_types.specs.declared.write.TheConstants.{REGISTER_BYTES}
 use Rattle.la_types.specs.declared.multi.TheConstants.{MULTI_BYTES}
 use Rattle.la_types.specs.declared.write_map.TheConstants.{KEYED_BYTES}
 use Rattle.la_types.specs.declared.counter_map.TheConstants.{COUNTER_KEY_BYTES}
+use Rattle.la_types.specs.declared.elements.TheConstants.{ELEMENT_BYTES}
 
 abbrev pub IsWriteRefusal : List ℕ → OwnError → Type 0
 IsWriteRefusal value TooLong = REGISTER_BYTES < length value
@@ -26,6 +27,10 @@ IsMultiRefusal value Memory = length value ≤ MULTI_BYTES
 abbrev pub IsCounterRefusal : List ℕ → OwnError → Type 0
 IsCounterRefusal key TooLong = COUNTER_KEY_BYTES < length key
 IsCounterRefusal key Memory = length key ≤ COUNTER_KEY_BYTES
+
+abbrev pub IsElementRefusal : List ℕ → OwnError → Type 0
+IsElementRefusal element TooLong = ELEMENT_BYTES < length element
+IsElementRefusal element Memory = length element ≤ ELEMENT_BYTES
 
 -- an operation is not kept: all amounts would be above what a u64 holds, or there is no memory
 abbrev pub IsKeepRefusal : KeptCounters → CounterOp → Refusal → Type 0

@@ -6,8 +6,9 @@ use la_own::OwnError;
 use la_set::{Counts, Op, Update, UpdateId};
 use la_shelf::{Absorbs, Refusal};
 use la_types::{
-    Bytes, CounterMap, CounterOp, FlagOp, KeyedWrites, MultiRegister, Register, Write, WriteMap,
-    add_op, keyed_op, multi_op, reset_op, write_op,
+    Bytes, CounterMap, CounterOp, Elements, FlagOp, GrowSet, KeyedWrites, MultiRegister, Register,
+    SetAnswer, SetQuery, TwoPhaseSet, Write, WriteMap, add_op, insert_element_op, keyed_op,
+    multi_op, remove_element_op, reset_op, write_op,
 };
 use std::alloc::Global;
 
@@ -257,6 +258,99 @@ fn absorb_of(map: &mut CounterMap, id: UpdateId, op: Op) -> Option<()> {
     map.absorb(&Update { id, object: 1, op }).ok()
 }
 
+fn inserting(alloc: Global) -> Option<Op> {
+    made(insert_element_op(alloc, VALUE))
+}
+
+fn insert_element(elements: &mut Elements, alloc: Global) -> Came {
+    match elements.insert(alloc, VALUE) {
+        Ok(()) => Some(elements.has(VALUE)),
+        Err(_) => refused(elements.is_empty()),
+    }
+}
+
+fn all_elements(elements: &Elements, alloc: Global) -> Came {
+    match elements.all(alloc) {
+        Ok(all) => match all.all() {
+            [element] => Some(is_value(element)),
+            _ => Some(false),
+        },
+        Err(_) => refused(elements.has(VALUE)),
+    }
+}
+
+fn copy_elements(elements: &Elements, alloc: Global) -> Came {
+    match elements.copy(alloc) {
+        Ok(copy) => Some(copy.has(VALUE) && copy.len() == 1),
+        Err(_) => refused(elements.has(VALUE)),
+    }
+}
+
+fn elements(alloc: Global) -> Came {
+    let mut elements = Elements::new(alloc);
+    Some(
+        again!(alloc, insert_element(&mut elements, alloc))?
+            && again!(alloc, all_elements(&elements, alloc))?
+            && again!(alloc, copy_elements(&elements, alloc))?,
+    )
+}
+
+fn ask_items(set: &GrowSet) -> Came {
+    match set.ask(&SetQuery::Items) {
+        Ok(SetAnswer::Items(all)) => match all.all() {
+            [element] => Some(is_value(element)),
+            _ => Some(false),
+        },
+        Ok(_) => Some(false),
+        Err(_) => refused(!set.fresh()),
+    }
+}
+
+fn grown_elements(set: &GrowSet) -> Came {
+    match set.state() {
+        Ok(elements) => Some(elements.has(VALUE)),
+        Err(_) => refused(!set.fresh()),
+    }
+}
+
+fn a_grow_set(alloc: Global) -> Came {
+    let op = inserting(alloc)?;
+    let mut set = GrowSet::new(alloc);
+    Some(
+        absorb(&mut set, op)?
+            && again!(alloc, ask_items(&set))?
+            && again!(alloc, grown_elements(&set))?,
+    )
+}
+
+fn has_none(set: &TwoPhaseSet) -> Came {
+    match set.ask(&SetQuery::Items) {
+        Ok(SetAnswer::Items(all)) => Some(all.len() == 0),
+        Ok(_) => Some(false),
+        Err(_) => refused(!set.fresh()),
+    }
+}
+
+fn two_phase_state(set: &TwoPhaseSet) -> Came {
+    match set.state() {
+        Ok(state) => Some(state.present.is_empty() && state.removed.has(VALUE)),
+        Err(_) => refused(!set.fresh()),
+    }
+}
+
+// What was removed first stays out when it is inserted.
+fn a_two_phase_set(alloc: Global) -> Came {
+    let removal = made(remove_element_op(alloc, VALUE))?;
+    let insertion = inserting(alloc)?;
+    let mut set = TwoPhaseSet::new(alloc);
+    Some(
+        absorb(&mut set, removal)?
+            && absorb(&mut set, insertion)?
+            && again!(alloc, has_none(&set))?
+            && again!(alloc, two_phase_state(&set))?,
+    )
+}
+
 fn scenes(alloc: Global) -> Came {
     Some(
         again!(alloc, disable(alloc))?
@@ -266,7 +360,10 @@ fn scenes(alloc: Global) -> Came {
             && again!(alloc, a_multi_register(alloc))?
             && again!(alloc, put(alloc))?
             && again!(alloc, take_out(alloc))?
-            && again!(alloc, a_counter_map(alloc))?,
+            && again!(alloc, a_counter_map(alloc))?
+            && again!(alloc, elements(alloc))?
+            && again!(alloc, a_grow_set(alloc))?
+            && again!(alloc, a_two_phase_set(alloc))?,
     )
 }
 

@@ -5,6 +5,7 @@
 
 pub mod carts;
 pub mod counters;
+pub mod elements;
 pub mod flags;
 pub mod maps;
 pub mod multis;
