@@ -9,3 +9,6 @@ mod CounterBytes
 mod Kept
 mod ElementSets
 mod ElementBytes
+mod KeyEntries
+mod PartBytes
+mod KeptParts

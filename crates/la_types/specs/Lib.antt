@@ -24,3 +24,6 @@ pub mod GrowSets
 pub mod GrowSetLaws
 pub mod TwoPhaseSets
 pub mod TwoPhaseSetLaws
+pub mod KeyMaps
+pub mod KeyedObjects
+pub mod KeyedObjectLaws

@@ -1,11 +1,14 @@
 -- When a call is refused, and how: by cases over the error.
-use Rattle.std.specs.Prelude.{ℕ, ◌+◌, ◌^◌, ◌<◌, ◌≤◌, List, length, Option, IsSomeAnd}
+use Rattle.std.specs.Prelude.{◌≡◌, ℕ, ◌+◌, ◌^◌, ◌<◌, ◌≤◌, List, length, Option, None, IsSomeAnd}
 use Rattle.la_own.specs.declared.error.OwnError.{OwnError}
 use Rattle.la_own.specs.declared.error.OwnError.TheVariants.{TooLong, Memory}
+use Rattle.la_own.specs.declared.own.TheConstants.{OWN_BYTES}
 use Rattle.la_shelf.specs.declared.error.Refusal.{Refusal}
 use Rattle.la_shelf.specs.declared.error.Refusal.TheVariants as why
 use Rattle.la_types.specs.declared.counter_map.CounterOp.{CounterOp}
 use Rattle.la_types.specs.CounterMaps.{KeptCounters, amount_of, all_amounts}
+use Rattle.la_types.specs.declared.keyed_objects.UnderError.{UnderError}
+use Rattle.la_types.specs.declared.keyed_objects.UnderError.TheVariants as under
 use Rattle.la_types.specs.declared.write.TheConstants.{REGISTER_BYTES}
 use Rattle.la_types.specs.declared.multi.TheConstants.{MULTI_BYTES}
 use Rattle.la_types.specs.declared.write_map.TheConstants.{KEYED_BYTES}
@@ -31,6 +34,17 @@ IsCounterRefusal key Memory = length key ≤ COUNTER_KEY_BYTES
 abbrev pub IsElementRefusal : List ℕ → OwnError → Type 0
 IsElementRefusal element TooLong = ELEMENT_BYTES < length element
 IsElementRefusal element Memory = length element ≤ ELEMENT_BYTES
+
+-- an operation, with these bytes if it is one of one's own, is not put under a key
+abbrev pub IsUnderRefusal : List ℕ → Option (List ℕ) → UnderError → Type 0
+IsUnderRefusal key own under.NotOwn = own ≡ None
+IsUnderRefusal key own under.TooLong = IsSomeAnd own (λ bytes. OWN_BYTES < 1 + length key + length bytes)
+IsUnderRefusal key own under.Memory = IsSomeAnd own (λ bytes. 1 + length key + length bytes ≤ OWN_BYTES)
+
+-- why an operation that was to be put under a key was not made
+abbrev pub passed_under : OwnError → UnderError
+passed_under TooLong = under.TooLong
+passed_under Memory = under.Memory
 
 -- an operation is not kept: all amounts would be above what a u64 holds, or there is no memory
 abbrev pub IsKeepRefusal : KeptCounters → CounterOp → Refusal → Type 0

@@ -3,7 +3,7 @@ ghost use Rattle.std.specs.FinMap as map;
 
 use crate::bytes::behind;
 use crate::elements::{INSERTS, begins_with};
-use crate::{Elements, SetAnswer, SetQuery};
+use crate::{Begins, Elements, SetAnswer, SetQuery};
 use la_own::own_bytes;
 use la_set::Update;
 use la_shelf::{Absorbs, Refusal};
@@ -78,4 +78,10 @@ impl Absorbs for GrowSet {
     }
 
     ghost lawful = { grow_set_lawful };
+}
+
+impl Begins for GrowSet {
+    fn begin(alloc: Global) -> GrowSet {
+        GrowSet::new(alloc)
+    }
 }

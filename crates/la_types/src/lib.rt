@@ -4,6 +4,7 @@
 //! `specs/` has each type's meaning: what a question is answered, said of the list of updates.
 #![tactic(auto)]
 
+mod by_key;
 mod bytes;
 mod counter_map;
 mod data;
@@ -11,6 +12,7 @@ mod elements;
 mod flag;
 mod grow_set;
 mod keyed;
+mod keyed_objects;
 pub mod laws;
 mod multi;
 mod register;
@@ -18,6 +20,7 @@ mod two_phase_set;
 mod write;
 mod write_map;
 
+pub use by_key::ByKey;
 pub use counter_map::{COUNTER_KEY_BYTES, CounterMap, CounterOp, CounterState, add_op, reset_op};
 pub use data::Bytes;
 pub use elements::{
@@ -26,6 +29,7 @@ pub use elements::{
 pub use flag::{Flag, FlagOp, FlagState};
 pub use grow_set::GrowSet;
 pub use keyed::KeyedWrites;
+pub use keyed_objects::{Begins, Keyed, UnderError, op_under};
 pub use multi::{Entry, LastWrites, MULTI_BYTES, MultiRegister, MultiState, multi_op};
 pub use register::Register;
 pub use two_phase_set::{TwoPhaseSet, TwoPhaseState};

@@ -3,7 +3,7 @@ ghost use Rattle.la_types.specs.TwoPhaseSets.{two_phase_start, with_insertion, w
 
 use crate::bytes::behind;
 use crate::elements::{INSERTS, REMOVES, begins_with};
-use crate::{Elements, SetAnswer, SetQuery};
+use crate::{Begins, Elements, SetAnswer, SetQuery};
 use la_own::own_bytes;
 use la_set::Update;
 use la_shelf::{Absorbs, Refusal};
@@ -125,4 +125,10 @@ impl Absorbs for TwoPhaseSet {
     }
 
     ghost lawful = { two_phase_lawful };
+}
+
+impl Begins for TwoPhaseSet {
+    fn begin(alloc: Global) -> TwoPhaseSet {
+        TwoPhaseSet::new(alloc)
+    }
 }

@@ -6,9 +6,9 @@ use la_own::OwnError;
 use la_set::{Counts, Op, Update, UpdateId};
 use la_shelf::{Absorbs, Refusal};
 use la_types::{
-    Bytes, CounterMap, CounterOp, Elements, FlagOp, GrowSet, KeyedWrites, MultiRegister, Register,
-    SetAnswer, SetQuery, TwoPhaseSet, Write, WriteMap, add_op, insert_element_op, keyed_op,
-    multi_op, remove_element_op, reset_op, write_op,
+    Bytes, CounterMap, CounterOp, Elements, FlagOp, GrowSet, Keyed, KeyedWrites, MultiRegister,
+    Register, SetAnswer, SetQuery, TwoPhaseSet, UnderError, Write, WriteMap, add_op,
+    insert_element_op, keyed_op, multi_op, op_under, remove_element_op, reset_op, write_op,
 };
 use std::alloc::Global;
 
@@ -351,6 +351,44 @@ fn a_two_phase_set(alloc: Global) -> Came {
     )
 }
 
+fn under(alloc: Global, op: &Op) -> Came {
+    match op_under(alloc, KEY, op) {
+        Ok(_) => Some(true),
+        Err(it) => refused(it == UnderError::Memory),
+    }
+}
+
+fn ask_under(map: &Keyed<Register>, query: &(Bytes, ())) -> Came {
+    match map.ask(query) {
+        Ok(Some(value)) => Some(is_value(&value)),
+        Ok(None) => Some(false),
+        Err(_) => refused(!map.fresh()),
+    }
+}
+
+fn states_under(map: &Keyed<Register>) -> Came {
+    match map.state() {
+        Ok(states) => match states.get(KEY) {
+            Some(Some(write)) => Some(is_value(&write.value)),
+            _ => Some(false),
+        },
+        Err(_) => refused(!map.fresh()),
+    }
+}
+
+fn a_map_of_registers(alloc: Global) -> Came {
+    let write = made(write_op(alloc, 4, VALUE))?;
+    let op = op_under(alloc, KEY, &write).ok()?;
+    let query = (Bytes::of(alloc, KEY).ok()?, ());
+    let mut map: Keyed<Register> = Keyed::new(alloc);
+    Some(
+        again!(alloc, under(alloc, &write))?
+            && absorb(&mut map, op)?
+            && again!(alloc, ask_under(&map, &query))?
+            && again!(alloc, states_under(&map))?,
+    )
+}
+
 fn scenes(alloc: Global) -> Came {
     Some(
         again!(alloc, disable(alloc))?
@@ -363,7 +401,8 @@ fn scenes(alloc: Global) -> Came {
             && again!(alloc, a_counter_map(alloc))?
             && again!(alloc, elements(alloc))?
             && again!(alloc, a_grow_set(alloc))?
-            && again!(alloc, a_two_phase_set(alloc))?,
+            && again!(alloc, a_two_phase_set(alloc))?
+            && again!(alloc, a_map_of_registers(alloc))?,
     )
 }
 

@@ -7,6 +7,7 @@ pub mod carts;
 pub mod counters;
 pub mod elements;
 pub mod flags;
+pub mod keyed;
 pub mod maps;
 pub mod multis;
 pub mod notes;
