@@ -7,3 +7,8 @@ mod KeyedBytes
 mod MultiBytes
 mod CounterBytes
 mod Kept
+mod ElementSets
+mod ElementBytes
+mod KeyEntries
+mod PartBytes
+mod KeptParts
