@@ -1,5 +1,5 @@
 -- A host: a node with a shelf of objects, what waits to be sent, and what of its view was handed on.
-use Rattle.std.specs.Prelude.{◌≡◌, ◌⊎◌, ⊤, ⊥, ℕ, ◌<◌, List, [], ◌∷◌, ◌++◌, map, filter, length, Option, Some, None}
+use Rattle.std.specs.Prelude.{◌≡◌, ◌⊎◌, ⊤, ℕ, ◌<◌, List, [], ◌∷◌, ◌++◌, map, filter, length, Option, Some, None}
 use Rattle.la_set.specs.declared.counts.Counts.{Counts}
 use Rattle.la_set.specs.Counts.{zero_counts}
 use Rattle.la_set.specs.Inclusion.{IsSubset}
@@ -77,17 +77,17 @@ IsUnseen o shelf.NotFresh = ⊥
 -- ## Steps
 
 -- the node took this call, and what it sends waits; nothing else has changed but what was heard of others
-pub record IsHostStep (before : HostState) (links : Links) (call : WireCall) (given : Given) (after : HostState)
+pub record IsHostStep (before : HostState) (heard : Links) (call : WireCall) (given : Given) (after : HostState)
     : Type 0 where
   pub does : acts before.kept call ≡ Some (given, after.kept)
-  pub mail : IsPosted links after.kept given.mail before.mail after.mail
-  pub links : after.links ≡ links
+  pub mail : IsPosted heard after.kept given.mail before.mail after.mail
+  pub links : after.links ≡ heard
   pub shelf : after.shelf ≡ before.shelf
   pub handed : after.handed ≡ before.handed
 
 -- so it took a call, whatever the node gave out for it
 abbrev pub TakesCall : HostState → Links → WireCall → HostState → Type 0
-TakesCall before links call after = (given : Given) × IsHostStep before links call given after
+TakesCall before heard call after = (given : Given) × IsHostStep before heard call given after
 
 -- how many updates it has submitted
 abbrev pub number_of : Option ℕ → ℕ

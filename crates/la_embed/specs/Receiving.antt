@@ -1,18 +1,16 @@
 -- What a host makes of a line from another replica.
-use Rattle.std.specs.Prelude.{◌≡◌, ◌⊎◌, ⊥, ℕ, nat_le, ◌==◌, Bool, true, false, ◌&&◌, List, [], ◌∷◌, Ok, Err, Result, length, drop}
+use Rattle.std.specs.Prelude.{◌≡◌, ◌⊎◌, ℕ, nat_le, ◌==◌, Bool, true, false, ◌&&◌, List, [], ◌∷◌, Ok, Err, Result, length, drop}
 use Rattle.std.specs.Prelude.{Option, Some, None, if◌then◌else◌}
 use Rattle.std.specs.List.{list_all}
 use Rattle.la_set.specs.declared.counts.Counts.{Counts}
 use Rattle.la_set.specs.declared.update.Update.{Update}
 use Rattle.la_set.specs.Counts.{count_in, counts_of}
-use Rattle.la_set.specs.Deltas.{DeltaState}
 use Rattle.la_set.specs.Histories.{Histories}
 use Rattle.la_replica.specs.declared.parcel.Content.{Content}
 use Rattle.la_replica.specs.declared.parcel.Content.TheVariants as content
 use Rattle.la_replica.specs.ReplicaState.{ReplicaState}
 use Rattle.la_node.specs.declared.link.Letter.{Letter}
 use Rattle.la_node.specs.declared.link.Links.{Links}
-use Rattle.la_node.specs.declared.link.Standing.{Standing}
 use Rattle.la_node.specs.Accepting.{has_counts}
 use Rattle.la_node.specs.Links.{known_with, standing_of}
 use Rattle.la_wire.specs.declared.error.LineFault.{LineFault}

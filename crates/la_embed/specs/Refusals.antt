@@ -1,11 +1,10 @@
 -- When a host refuses, and how: by those of what it calls.
-use Rattle.std.specs.Prelude.{◌≡◌, ◌≢◌, ◌⊎◌, ℕ, List, Ok, Err, Result, Option, Some, None}
 use Rattle.la_wire.specs.declared.error.LineError.{LineError}
 use Rattle.la_wire.specs.declared.error.LineError.TheVariants as line
 use Rattle.la_durable.specs.declared.error.NodeError.{NodeError}
 use Rattle.la_durable.specs.declared.error.NodeError.TheVariants as node
 use Rattle.la_embed.specs.declared.error.HostError.{HostError}
-use Rattle.la_embed.specs.declared.error.HostError.TheVariants.{Line, NoMessage, Node, Memory}
+use Rattle.la_embed.specs.declared.error.HostError.TheVariants.{Line, Node, Memory}
 
 abbrev pub of_node : NodeError → HostError
 of_node node.Memory = Memory

@@ -1,4 +1,4 @@
-ghost use Rattle.std.specs.Prelude.{◌≡◌, ◌×◌, ◌≤◌, ◌++◌, [], Ok, Some, None, IsOk, IfOk, IfErr, OnOk, OnErr, MatchOption};
+ghost use Rattle.std.specs.Prelude.{◌≡◌, ◌≤◌, ◌++◌, ◌∷◌, [], Ok, Some, None, IsOk, IfOk, IfErr, OnOk, OnErr, MatchOption};
 ghost use Rattle.std.specs.Prelude.{drop, filter, length, slice_get};
 ghost use Rattle.std.specs.Option.{option_copied};
 ghost use Rattle.la_set.specs.Inclusion.{IsSubset};
@@ -14,7 +14,7 @@ ghost use Rattle.la_wire.specs.Calls.{called, Submit, Decide};
 ghost use Rattle.la_node.specs.Links.{standing_of};
 ghost use Rattle.la_durable.specs.Nodes.{empty_shelf, kept_by};
 ghost use Rattle.la_durable.specs.Errors.{IsActRefusal, RefusesSubmission, RefusesProposal};
-ghost use Rattle.la_embed.specs.Learnt.{next_learnt, next_id, handed_with};
+ghost use Rattle.la_embed.specs.Learnt.{IsNextLearnt, HandsOn};
 ghost use Rattle.la_embed.specs.Hosts.{host_of, shelf_now, submitted_by, with_handed, with_mail, with_objects};
 ghost use Rattle.la_embed.specs.Hosts.{TakesCall, IsPosted, IsToldBack, IsSentAgain, IsUnseen, with_letters};
 ghost use Rattle.la_embed.specs.Receiving.{TakesLine, TakesLetter, RefusesHere, IsReceiveRefusal, BringsOwn, own_first};
@@ -24,8 +24,8 @@ use crate::learnt::{handed_with, next_id};
 use crate::{HostError, Outgoing};
 use la_commit::Outcome;
 use la_durable::{NodeError, NodeMachine};
-use la_node::{Config, Letter, Links, WorldError};
-use la_object::{Answer, Query, Replicated, Shelf, ShelfError};
+use la_node::{Config, Done, Letter, Links, Node, Received, WorldError};
+use la_object::{Answer, Counter, Query, Replicated, Shelf, ShelfError};
 use la_replica::{Content, Mail, Progress};
 use la_set::{Counts, Delta, Op, Tags, Update, UpdateSet};
 use la_wire::{Call, read_bounded};
@@ -148,7 +148,7 @@ impl<B: Replicated> Host<B> {
         let Ok(letters) = self.links.letters(self.alloc, &self.machine.node, mail) else {
             return;
         };
-        let _lost = self.wait(letters);
+        let _lost = put_letters(&mut self.mail, letters);
     }
 
     // Takes a call of this node's: one step of it, with what is known of others from then on.
@@ -157,9 +157,10 @@ impl<B: Replicated> Host<B> {
         ensures refusal { IfErr result (IsActRefusal self.old.kept call.now) }
         ensures err { OnErr result (self.new ≡ self.old) }
     {
-        let received = self.machine.act(call)?;
+        let Received { done, .. } = self.machine.act(call)?;
+        let Done { mail, .. } = done;
         self.links = links;
-        self.post(received.done.mail);
+        self.post(mail);
         Ok(())
     }
 
@@ -261,33 +262,6 @@ impl<B: Replicated> Host<B> {
         }
     }
 
-    // Puts letters behind what waits. After a refusal nothing has changed.
-    fn wait(&mut self, letters: Vec<Letter>) -> Result<(), AllocError>
-        ensures ok { OnOk result (self.new.mail ≡ with_letters self.old.mail letters.items) }
-        ensures same { self.new ≡ with_mail self.old self.new.mail }
-        ensures err { OnErr result (self.new ≡ self.old) }
-    {
-        self.mail.reserve(letters.len())?;
-        for letter in letters {
-            self.mail.push_back_reserved(Outgoing::Letter(letter));
-        }
-        Ok(())
-    }
-
-    // The letters of mail that is owed.
-    fn owed(&self, mail: Mail) -> Result<Vec<Letter>, AllocError>
-        ensures { IfOk result (λ letters. letters.items
-            ≡ letters_of self.now.links self.now.kept (filter (is_owed self.now.links) mail)) }
-    {
-        let mut letters = Vec::with_capacity(self.alloc, mail.len())?;
-        for message in SmallVec::from(mail) {
-            if self.links.is_owed(&message) {
-                letters.push(self.links.letter(&self.machine.node, message)?)?;
-            }
-        }
-        Ok(letters)
-    }
-
     /// Puts what waits for an answer behind what is to be sent once more, but for sets that their receivers are known
     /// to have: what a timer is to call. After a refusal nothing has changed.
     pub fn again(&mut self) -> Result<(), AllocError>
@@ -296,8 +270,8 @@ impl<B: Replicated> Host<B> {
         ensures err { OnErr result (self.new ≡ self.old) }
     {
         let mail = self.machine.node.again()?;
-        let letters = self.owed(mail)?;
-        self.wait(letters)
+        let letters = owed(self.alloc, &self.links, &self.machine.node, mail)?;
+        put_letters(&mut self.mail, letters)
     }
 
     /// What is to be sent next, the oldest first.
@@ -334,14 +308,15 @@ impl<B: Replicated> Host<B> {
     /// the order of numbers. `None` once all of the view were. It is the same until [`Host::handed_on`]. The cost is
     /// logarithmic.
     pub fn next_learnt(&self) -> Option<&Update>
-        ensures { option_copied result ≡ next_learnt self.now.handed self.now.kept.view }
+        ensures { IsNextLearnt self.now.handed self.now.kept.view (option_copied result) }
     {
         self.view().get(next_id(self.handed, self.view())?)
     }
 
     /// Takes note that what was to be handed on next was: nothing, where all of the view were.
     pub fn handed_on(&mut self)
-        ensures { self.new ≡ with_handed self.old (handed_with self.old.handed (next_id self.old.handed self.old.kept.view)) }
+        ensures same { self.new ≡ with_handed self.old self.new.handed }
+        ensures handed { HandsOn self.old.kept.view self.old.handed self.new.handed }
     {
         if let Some(id) = next_id(self.handed, self.view()) {
             self.handed = handed_with(self.handed, id);
@@ -375,9 +350,42 @@ impl<B: Replicated> Host<B> {
         ensures same { self.new ≡ with_objects self.old self.new.shelf }
     {
         // what it answers is not looked at: the shelf has the view then
-        let _absorbed = self.ask(object, &Query::Size)?;
+        let _absorbed = self
+            .shelf
+            .ask_by(self.machine.node.view(), object, &Query::Size)?;
         self.shelf.observed(object, element)
     }
+}
+
+// Puts letters behind what waits. After a refusal nothing has changed.
+fn put_letters(mail: &mut VecDeque<Outgoing>, letters: Vec<Letter>) -> Result<(), AllocError>
+    ensures ok { OnOk result (mail.new.items ≡ with_letters mail.old.items letters.items) }
+    ensures err { OnErr result (mail.new.items ≡ mail.old.items) }
+{
+    mail.reserve(letters.len())?;
+    for letter in letters {
+        mail.push_back_reserved(Outgoing::Letter(letter));
+    }
+    Ok(())
+}
+
+// The letters of mail, but for sets that their receivers are known to have.
+fn owed(
+    alloc: Global,
+    links: &Links,
+    node: &Node<Counter>,
+    mail: Mail,
+) -> Result<Vec<Letter>, AllocError>
+    ensures { IfOk result (λ letters. letters.items
+        ≡ letters_of links.now node.now.replica (filter (is_owed links.now) mail)) }
+{
+    let mut letters = Vec::with_capacity(alloc, mail.len())?;
+    for message in SmallVec::from(mail) {
+        if links.is_owed(&message) {
+            letters.push(links.letter(node, message)?)?;
+        }
+    }
+    Ok(letters)
 }
 
 // Whether a message is for this replica of this group.

@@ -2,7 +2,7 @@ ghost use Rattle.std.specs.Prelude.{◌≡◌, ◌++◌, OnOk};
 ghost use Rattle.la_embed.specs.Outgoing.{receiver, outgoing_text};
 
 use la_node::{Letter, Standing};
-use la_wire::{put_letter, put_standing};
+use la_wire::{put_known_line, put_letter};
 use std::alloc::AllocError;
 
 /// What a host has to send.
@@ -32,7 +32,12 @@ impl Outgoing {
     {
         match self {
             Outgoing::Letter(letter) => put_letter(out, letter),
-            Outgoing::Standing(standing) => put_standing(out, standing),
+            Outgoing::Standing(standing) => {
+                put_known_line(out, standing)?;
+                // without the line's end
+                let _end = out.pop();
+                Ok(())
+            }
         }
     }
 }

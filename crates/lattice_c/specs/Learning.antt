@@ -5,7 +5,7 @@ use Rattle.la_set.specs.declared.update.Op.TheVariants as op
 use Rattle.la_set.specs.declared.update.Update.{Update}
 use Rattle.la_own.specs.Own.{own_bytes_of}
 use Rattle.la_embed.specs.Hosts.{HostState, with_handed}
-use Rattle.la_embed.specs.Learnt.{next_id, next_learnt, handed_with}
+use Rattle.la_embed.specs.Learnt.{IsNextLearnt, HandsOn}
 use Rattle.lattice_c.specs.declared.learning.Learnt.{Learnt}
 use Rattle.lattice_c.specs.Calls.{filled}
 
@@ -47,10 +47,11 @@ abbrev pub TellsNext : HostState → Option Update → (buffer : List ℕ) → (
 TellsNext before None buffer status out len given after = (status ≡ 2) × (given ≡ buffer) × (after ≡ before)
 TellsNext before (Some u) buffer status out len given after =
     ((status ≡ 0) × IsTold u (own_bytes_of u.op) buffer true out len given
-        × (after ≡ with_handed before (handed_with before.handed (next_id before.handed before.kept.view))))
+        × (after ≡ with_handed before after.handed) × HandsOn before.kept.view before.handed after.handed)
     ⊎ ((status ≡ 3) × IsTold u (own_bytes_of u.op) buffer false out len given × (after ≡ before))
 
 abbrev pub TellsLearnt : HostState → (buffer : List ℕ) → (status : ℕ) → Learnt → (len : ℕ) → (given : List ℕ) → HostState
     → Type 0
 TellsLearnt before buffer status out len given after =
-    TellsNext before (next_learnt before.handed before.kept.view) buffer status out len given after
+    (next : Option Update) × IsNextLearnt before.handed before.kept.view next
+    × TellsNext before next buffer status out len given after

@@ -1,5 +1,5 @@
 // What objects are asked.
-ghost use Rattle.std.specs.Prelude.{◌≡◌, ◌×◌, ◌⊎◌, ◌<◌, length};
+ghost use Rattle.std.specs.Prelude.{◌≡◌, ◌⊎◌, ◌<◌, length};
 ghost use Rattle.la_object.specs.declared.query.Query.TheVariants.{Total, AtLeast, Largest, Has, Size, Items};
 ghost use Rattle.lattice_c.specs.Calls.{IsAsked, total_in, reached_in, largest_in, has_in, size_in};
 

@@ -1,5 +1,5 @@
 // What a node sends and takes.
-ghost use Rattle.std.specs.Prelude.{◌≡◌, ◌≢◌, ◌×◌, ◌⊎◌, List, Some, None, IfOk, IfSome, OnErr, option_map, slice_get};
+ghost use Rattle.std.specs.Prelude.{◌≡◌, ◌≢◌, ◌⊎◌, List, Some, None, IfOk, IfSome, OnErr, option_map, slice_get};
 ghost use Rattle.la_embed.specs.Hosts.{HostState, IsSentAgain, with_mail};
 ghost use Rattle.la_embed.specs.Outgoing.{receiver, outgoing_text};
 ghost use Rattle.la_embed.specs.Receiving.{TakesLine, IsReceiveRefusal};
