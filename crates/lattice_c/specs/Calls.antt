@@ -1,5 +1,5 @@
 -- What a call of C does to a node, and the status that says so.
-use Rattle.std.specs.Prelude.{◌≡◌, ◌≢◌, ◌⊎◌, ◌<◌, ℕ, Bool, true, false, List, [], ◌∷◌, ◌++◌, length, drop, slice_get, Option, Some, None}
+use Rattle.std.specs.Prelude.{◌≡◌, ◌⊎◌, ◌<◌, ℕ, ◌==◌, Bool, true, false, List, [], ◌∷◌, ◌++◌, length, drop, slice_get, Option, Some, None, if◌then◌else◌}
 use Rattle.std.specs.Prelude.{ℤ}
 use Rattle.la_set.specs.declared.update.Op.{Op}
 use Rattle.la_set.specs.declared.update.Op.TheVariants.{Remove}
@@ -75,17 +75,15 @@ TellsOutcome node commit status value committed = IsToldOutcome (returned_by com
 -- ## Objects
 
 abbrev pub kind_numbered : ℕ → Option Kind
-kind_numbered 0 = Some Counter
-kind_numbered 1 = Some MaxRegister
-kind_numbered 2 = Some OrSet
-kind_numbered _ = None
+kind_numbered kind =
+    if kind == 0 then Some Counter else if kind == 1 then Some MaxRegister else if kind == 2 then Some OrSet else None
 
 -- an object of a kind is added; 25 says that there is no such kind
 abbrev pub AddsObject : HostState → (object : ℕ) → Option Kind → (status : ℕ) → HostState → Type 0
 AddsObject before object None status after = (status ≡ 25) × (after ≡ before)
 AddsObject before object (Some kind) status after =
     ((status ≡ 0) × (after ≡ with_objects before (record before.shelf {
-        objects = before.shelf.objects ++ (object, kind) ∷ [];
+      objects = before.shelf.objects ++ (object, kind) ∷ [];
     })))
     ⊎ ((after ≡ before) × Ends ⊥ (IsAddRefusal (kind_at before.shelf.objects object) (start kind)) of_shelf status)
 
@@ -98,9 +96,9 @@ abbrev pub IsAsked : {V : Type 0} → (Answer → Option V) → HostState → (o
 IsAsked part before object query status told after =
     (after ≡ with_objects before after.shelf)
     × (((status ≡ 0) × ((answer : Answer) × (answer_at (shelf_now before) object query ≡ Some answer)
-        × (part answer ≡ Some told)))
+    × (part answer ≡ Some told)))
     ⊎ (((status ≡ 4) × ((answer : Answer) × (answer_at (shelf_now before) object query ≡ Some answer)
-        × (part answer ≡ None)))
+    × (part answer ≡ None)))
     ⊎ Ends ⊥ (IsAskRefusal (kind_at before.shelf.objects object)) of_shelf status))
 
 abbrev pub total_in : Answer → Option ℤ
@@ -108,7 +106,7 @@ total_in (answer.Total sum) = Some sum
 total_in _ = None
 
 abbrev pub reached_in : Answer → Option ℕ
-reached_in (answer.Reached yes) = Some (number_of_bool yes)
+reached_in (answer.Reached b) = Some (number_of_bool b)
 reached_in _ = None
 
 abbrev pub largest_in : Answer → Option ℕ
@@ -116,7 +114,7 @@ largest_in (answer.Largest value) = Some value
 largest_in _ = None
 
 abbrev pub has_in : Answer → Option ℕ
-has_in (answer.Has yes) = Some (number_of_bool yes)
+has_in (answer.Has b) = Some (number_of_bool b)
 has_in _ = None
 
 abbrev pub size_in : Answer → Option ℕ
@@ -141,7 +139,7 @@ abbrev pub IsHanded : HostState → Option Outgoing → (buffer : List ℕ) → 
 IsHanded before None buffer status to len given after = (status ≡ 2) × (after ≡ before)
 IsHanded before (Some first) buffer status to len given after =
     ((status ≡ 0) × (to ≡ receiver first) × (len ≡ length (outgoing_text first)) × (given ≡ filled (outgoing_text first) buffer)
-        × (after ≡ with_mail before (drop 1 before.mail)))
+    × (after ≡ with_mail before (drop 1 before.mail)))
     ⊎ (((status ≡ 3) × (len ≡ length (outgoing_text first)) × (length buffer < len) × (given ≡ buffer) × (after ≡ before))
     ⊎ ((status ≡ 1) × (given ≡ buffer) × (after ≡ before)))
 
@@ -162,4 +160,4 @@ pub record Removes (before : HostState) (object element number status told : ℕ
   pub objects : seen.shelf.objects ≡ before.shelf.objects
   pub done : ((tags : List UpdateId) × (tags_at (shelf_now before) object element ≡ Some tags)
       × Submits seen object (Remove tags) number status told after)
-    ⊎ (IsAsBefore seen after number told × Ends ⊥ (IsUnseen (tags_at (shelf_now before) object element)) of_shelf status)
+      ⊎ (IsAsBefore seen after number told × Ends ⊥ (IsUnseen (tags_at (shelf_now before) object element)) of_shelf status)

@@ -1,5 +1,7 @@
 -- What is told of an update that was learnt.
-use Rattle.std.specs.Prelude.{◌≡◌, ◌⊎◌, ◌<◌, ℕ, Bool, true, false, List, length, Option, Some, None}
+use Rattle.std.specs.Prelude.{◌≡◌, ◌⊎◌, ◌<◌, ℕ, Bool, true, false, List, [], ◌∷◌, length, Option, Some, None}
+use Rattle.la_set.specs.declared.counts.Counts.{Counts}
+use Rattle.la_set.specs.Counts.{count_in}
 use Rattle.la_set.specs.declared.update.Op.{Op}
 use Rattle.la_set.specs.declared.update.Op.TheVariants as op
 use Rattle.la_set.specs.declared.update.Update.{Update}
@@ -47,7 +49,7 @@ abbrev pub TellsNext : HostState → Option Update → (buffer : List ℕ) → (
 TellsNext before None buffer status out len given after = (status ≡ 2) × (given ≡ buffer) × (after ≡ before)
 TellsNext before (Some u) buffer status out len given after =
     ((status ≡ 0) × IsTold u (own_bytes_of u.op) buffer true out len given
-        × (after ≡ with_handed before after.handed) × HandsOn before.kept.view before.handed after.handed)
+    × (after ≡ with_handed before after.handed) × HandsOn before.kept.view before.handed after.handed)
     ⊎ ((status ≡ 3) × IsTold u (own_bytes_of u.op) buffer false out len given × (after ≡ before))
 
 abbrev pub TellsLearnt : HostState → (buffer : List ℕ) → (status : ℕ) → Learnt → (len : ℕ) → (given : List ℕ) → HostState
@@ -55,3 +57,8 @@ abbrev pub TellsLearnt : HostState → (buffer : List ℕ) → (status : ℕ) �
 TellsLearnt before buffer status out len given after =
     (next : Option Update) × IsNextLearnt before.handed before.kept.view next
     × TellsNext before next buffer status out len given after
+
+-- how many updates there are of each of eight replicas
+abbrev pub eight : Counts → List ℕ
+eight c =
+    count_in c 0 ∷ count_in c 1 ∷ count_in c 2 ∷ count_in c 3 ∷ count_in c 4 ∷ count_in c 5 ∷ count_in c 6 ∷ count_in c 7 ∷ []

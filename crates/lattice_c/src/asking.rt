@@ -99,7 +99,7 @@ pub extern "C" fn lattice_items(
 ) -> u8 {
     match handle.inner().host.ask(object, &Query::Items) {
         Ok(Answer::Items(items)) => {
-            let items = items.as_slice();
+            let items = items.all();
             let count = items.len();
             *len = count;
             if count > buffer.len() {

@@ -1,10 +1,10 @@
 // What a node has learnt.
-ghost use Rattle.std.specs.Prelude.{◌≡◌, ◌<◌, ℕ, slice_index_or};
-ghost use Rattle.la_set.specs.Counts.{count_in, counts_of};
+ghost use Rattle.std.specs.Prelude.{◌≡◌};
+ghost use Rattle.la_set.specs.Counts.{counts_of};
 ghost use Rattle.la_own.specs.Own.{own_bytes_of};
 ghost use Rattle.la_node.specs.Links.{known_of};
 ghost use Rattle.la_embed.specs.Hosts.{submitted_by};
-ghost use Rattle.lattice_c.specs.Learning.{kind_told, value_told, learnt_of, IsTold, TellsLearnt};
+ghost use Rattle.lattice_c.specs.Learning.{kind_told, value_told, learnt_of, eight, IsTold, TellsLearnt};
 
 use crate::handle::Handle;
 use crate::status::{NONE, OK, SMALL};
@@ -102,31 +102,38 @@ pub extern "C" fn lattice_next_learnt(
 }
 
 // Eight numbers, one a replica.
-fn put_counts(counts: Counts, out: &mut [u32; 8])
-    ensures { (r : ℕ) → r < 8 → slice_index_or out.new r 0 ≡ count_in counts r }
+fn eight(counts: Counts) -> [u32; 8]
+    ensures { result ≡ eight counts }
 {
-    for replica in 0..8u8 {
-        out[replica as usize] = counts.of(replica);
-    }
+    [
+        counts.of(0),
+        counts.of(1),
+        counts.of(2),
+        counts.of(3),
+        counts.of(4),
+        counts.of(5),
+        counts.of(6),
+        counts.of(7),
+    ]
 }
 
 /// How many updates of each replica the view has.
 #[unsafe(no_mangle)]
 pub extern "C" fn lattice_view(handle: &mut Handle, counts: &mut [u32; 8])
-    ensures told { (r : ℕ) → r < 8 → slice_index_or counts.new r 0 ≡ count_in (counts_of handle.old.host.host.kept.view) r }
+    ensures told { counts.new ≡ eight (counts_of handle.old.host.host.kept.view) }
     ensures same { handle.new.host.host ≡ handle.old.host.host }
 {
-    put_counts(handle.inner().host.view().counts(), counts);
+    *counts = eight(handle.inner().host.view().counts());
 }
 
-/// How many updates of each replica another node's view has at least, as far as was heard.
+/// How many updates of each replica another node's view has at least, as far as was heard: none, of a replica of 8 or
+/// more.
 #[unsafe(no_mangle)]
 pub extern "C" fn lattice_known(handle: &mut Handle, replica: u8, counts: &mut [u32; 8])
-    ensures told { (r : ℕ) → r < 8 → slice_index_or counts.new r 0
-        ≡ count_in (known_of handle.old.host.host.links replica).view r }
+    ensures told { counts.new ≡ eight (known_of handle.old.host.host.links replica).view }
     ensures same { handle.new.host.host ≡ handle.old.host.host }
 {
-    put_counts(handle.inner().host.known(replica).view, counts);
+    *counts = eight(handle.inner().host.known(replica).view);
 }
 
 /// How many updates the node has submitted: the number of the last.

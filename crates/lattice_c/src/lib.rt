@@ -14,12 +14,14 @@ mod starting;
 mod status;
 mod submitting;
 
-pub use asking::{lattice_at_least, lattice_has, lattice_items, lattice_largest, lattice_size, lattice_total};
+pub use asking::{
+    lattice_at_least, lattice_has, lattice_items, lattice_largest, lattice_size, lattice_total,
+};
 pub use handle::{Handle, Place};
 pub use learning::{Learnt, lattice_known, lattice_next_learnt, lattice_submitted, lattice_view};
 pub use mail::{lattice_again, lattice_next_mail, lattice_receive};
 pub use starting::{lattice_add, lattice_node_free, lattice_node_new, lattice_version};
 pub use submitting::{
-    lattice_dec, lattice_inc, lattice_mark, lattice_outcome, lattice_own, lattice_propose, lattice_put, lattice_raise,
-    lattice_remove,
+    lattice_dec, lattice_inc, lattice_mark, lattice_outcome, lattice_own, lattice_propose,
+    lattice_put, lattice_raise, lattice_remove,
 };

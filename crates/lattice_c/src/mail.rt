@@ -48,7 +48,7 @@ const MOST_OWN: u32 = 1_000;
 fn settle(inner: &mut Embedded)
     ensures { (states : List HostState) × AreBrought states inner.old.host inner.new.host }
 {
-    for _ in 0..MOST_OWN {
+    for _round in 0..MOST_OWN {
         if !inner.host.bring_own() {
             return;
         }

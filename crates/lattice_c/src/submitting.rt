@@ -1,13 +1,16 @@
 // What a node submits and proposes.
-ghost use Rattle.std.specs.Prelude.{◌≡◌};
+ghost use Rattle.std.specs.Prelude.{◌≡◌, Some, IfOk, IfErr};
+ghost use Rattle.la_object.specs.Shelves.{tags_at};
+ghost use Rattle.la_embed.specs.Hosts.{shelf_now, with_objects, IsUnseen};
 ghost use Rattle.la_set.specs.declared.update.Op.TheVariants.{Inc, Dec, Raise, Put, Mark};
 ghost use Rattle.la_own.specs.Own.{own};
 ghost use Rattle.lattice_c.specs.Calls.{Submits, SubmitsOwn, Removes, Proposes, TellsOutcome};
 
 use crate::handle::Handle;
 use crate::status::{NONE, OK, of_node, of_own, of_shelf};
+use la_object::ShelfError;
 use la_own::own_op;
-use la_set::Op;
+use la_set::{Op, Tags};
 
 // Submits an operation.
 fn submit(handle: &mut Handle, object: u16, op: Op, number: &mut u32) -> u8
@@ -87,6 +90,16 @@ pub extern "C" fn lattice_own(
     }
 }
 
+// The live tags of an element, by the view.
+fn observed(handle: &mut Handle, object: u16, element: u64) -> Result<Tags, ShelfError>
+    ensures ok { IfOk result (λ tags. tags_at (shelf_now handle.old.host.host) object element ≡ Some tags) }
+    ensures error { IfErr result (IsUnseen (tags_at (shelf_now handle.old.host.host) object element)) }
+    ensures objects { handle.new.host.host.shelf.objects ≡ handle.old.host.host.shelf.objects }
+    ensures same { handle.new.host.host ≡ with_objects handle.old.host.host handle.new.host.host.shelf }
+{
+    handle.inner().host.observed(object, element)
+}
+
 /// Submits that an element is taken out of an observed-remove set, as far as the view has it: what was put in at the
 /// same time elsewhere stays.
 ///
@@ -101,7 +114,7 @@ pub extern "C" fn lattice_remove(
 ) -> u8
     ensures { Removes handle.old.host.host object element number.old result number.new handle.new.host.host }
 {
-    match handle.inner().host.observed(object, element) {
+    match observed(handle, object, element) {
         Ok(tags) => submit(handle, object, Op::Remove(tags), number),
         Err(refused) => of_shelf(refused),
     }

@@ -12,7 +12,7 @@ use base.Fml.{Lft, GName, Share, Fml, ftrue, flft, fsep}
 use prog.Wp.{Env, Calls, Loops, WpFn, Tables}
 use prog.Memory.{Memory}
 use prog.Routine.{Routine}
-use contract.Monad.{Fun, fact}
+use contract.Monad.{Fun}
 use contract.Running.{tables, tables_of}
 use types.Logic.{Logic, sem}
 use sound.WpLaws.{WpFn-mono}
@@ -30,7 +30,7 @@ use denote.Exit.{no}
 use denote.Param.{layout}
 use denote.Follow.{follows, Part, lends_Part}
 use denote.Triple.Entry.{on_entry}
-use denote.Triple.Spec.{Meets, triple_of}
+use denote.Triple.Spec.{triple_of}
 use denote.Triple.Table.{entered}
 use denote.Triple.Walked.{says, Stays, stay_dropped, walk_of, ends_at, walked, walk_Meets, Goes-spent_ref}
 use Rattle.core.proofs.alloc.Calls.{token}
