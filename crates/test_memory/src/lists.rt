@@ -108,7 +108,8 @@ fn list_by(alloc: Global, replicas: &[u8]) -> Option<ElementList> {
 
 fn is_at(elements: &[Element], at: usize, of: (u8, u32)) -> bool {
     match elements.get(at) {
-        Some(element) => element.id == id(of.0, of.1) && element.value.as_slice() == &[of.0],
+        Some(element) => element.id == id(of.0, of.1)
+            && element.value.as_slice() == [of.0].as_slice(),
         None => false,
     }
 }
