@@ -1,7 +1,7 @@
 -- What is done to a list comes back from what was submitted.
 use Rattle.std.proofs.Common.{◌≡◌, ℕ, ◌<◌, ◌^◌, ◌==◌, nat_le, Bool, false, ◌&&◌, cond, List}
-use Rattle.std.proofs.Common.{length, drop, slice_index, Option, Some, None, IfSome, Result, Ok, Err, IsOk, IfOk, refl, ap, ◌∙◌}
-use Rattle.std.proofs.Common.{arith}
+use Rattle.std.proofs.Common.{length, drop, slice_index, Option, Some, None, IfSome, Result, Ok, Err, IsOk, IfOk, refl}
+use Rattle.std.proofs.Common.{ap, ◌∙◌, arith}
 use Rattle.std.specs.Option.{option_and_then}
 use Rattle.std.specs.Int.{w64, from_le_bytes}
 use Rattle.std.proofs.lemmas.Bool.{le-leb, and_from}

@@ -1,6 +1,6 @@
 -- What is put into a chain of links stands where the elements have it.
-use Rattle.std.proofs.Common.{◌≡◌, ℕ, zero, suc, ◌+◌, ◌<◌, ◌++◌, take, drop, not, Bool, true, false, ◌||◌, cond, List, [], ◌∷◌, length, is_some, Option}
-use Rattle.std.proofs.Common.{Some, None, refl, ap, sym, ◌∙◌, subst, inl, inr, arith}
+use Rattle.std.proofs.Common.{◌≡◌, ℕ, zero, suc, ◌+◌, ◌<◌, ◌++◌, take, drop, not, Bool, true, false, ◌||◌, cond, List}
+use Rattle.std.proofs.Common.{[], ◌∷◌, length, is_some, Option, Some, None, refl, ap, sym, ◌∙◌, subst, inl, inr, arith}
 use Rattle.std.proofs.lemmas.Bool.{cases_Bool, or_parts, or_from, or_right, false_from_ne_true, false≢true}
 use Rattle.std.proofs.lemmas.Option.{same_Some}
 use Rattle.std.proofs.lemmas.List.Elements.{filter-append}
@@ -95,8 +95,10 @@ module _ (before : UpdateId) (new : Element) where
       elim (cases_Bool (id_eq e.id before)) [
         | inl t ↦ subst AreApart (here e es t) (or_from _ _ other apart.0, (parts.1, apart.1))
         | inr f ↦
-            subst AreApart (later e es f)
-            (stands_before es e.id (stands es before) refl ∙ neither (stands es before) other apart.0, after_apart es parts.1 apart.1)
+            subst AreApart (later e es f) (
+              stands_before es e.id (stands es before) refl ∙ neither (stands es before) other apart.0,
+              after_apart es parts.1 apart.1,
+            )
       ]
     where
       neither : (d : Bool) → id_eq new.id e.id ≡ false → stands es e.id ≡ false
@@ -104,7 +106,8 @@ module _ (before : UpdateId) (new : Element) where
       neither true one other = or_from _ _ one other
       neither false one other = other
 
-  module _ (at more : Links) (link : Link) (there : at before ≡ Some link) (new_link : IsLink new link.next (more new.id))
+  module _ (at more : Links) (link : Link) (there : at before ≡ Some link)
+      (new_link : IsLink new link.next (more new.id))
       (moved : more before ≡ Some (record link { next = Some new.id }))
       (same : (q : UpdateId) → id_eq q before ≡ false → id_eq q new.id ≡ false → more q ≡ at q) where
     rest_linked : (es : List Element) (first : Option UpdateId) → stands es before ≡ false → stands es new.id ≡ false
@@ -311,4 +314,5 @@ step_is at first es k s id link is there =
 -- what shows of one element more
 pub one_shown : (deleted : SetOfIds) (es fs : List Element) (e : Element) → fs ≡ es ++ e ∷ []
     → but_deleted deleted fs ≡ but_deleted deleted es ++ cond (not (set.contains deleted e.id)) (e ∷ []) []
-one_shown deleted es fs e is = ap (but_deleted deleted) is ∙ filter-append (λ (f : Element). not (set.contains deleted f.id)) es (e ∷ [])
+one_shown deleted es fs e is =
+    ap (but_deleted deleted) is ∙ filter-append (λ (f : Element). not (set.contains deleted f.id)) es (e ∷ [])

@@ -21,4 +21,5 @@ pub id_itself : (x : UpdateId) → id_eq x x ≡ true
 id_itself x = (id_eq-Decides x x).1 refl
 
 pub other_id : (x y : UpdateId) → id_eq x y ≡ false → id_eq y x ≡ false
-other_id x y not = false_from_ne_true (id_eq y x) (λ t. false≢true (sym not ∙ (id_eq-Decides x y).1 (sym (tested_id y x t))))
+other_id x y not =
+    false_from_ne_true (id_eq y x) (λ t. false≢true (sym not ∙ (id_eq-Decides x y).1 (sym (tested_id y x t))))

@@ -14,11 +14,12 @@ use Rattle.la_list.specs.declared.list.Element.{Element}
 use Rattle.la_list.specs.declared.list.ListState.{ListState}
 use Rattle.la_list.specs.declared.op.ListOp.{ListOp}
 use Rattle.la_list.specs.declared.op.ListOp.TheVariants.{Insert, Delete}
-use Rattle.la_list.specs.Orders.{InsertMap, SetOfIds, moment_order, id_order, moment_total, moment_tied, id_total, id_tied}
+use Rattle.la_list.specs.Orders.{InsertMap, SetOfIds, moment_order, id_order, moment_total, moment_tied, id_total}
+use Rattle.la_list.specs.Orders.{id_tied}
 use Rattle.la_list.specs.IdTests.{tied_ids}
 use Rattle.la_list.specs.ListBytes.{edit_of}
-use Rattle.la_list.specs.Lists.{in_order, also_put, inserts_of, takes_out, taken_out, also_out, list_start, list_step}
-use Rattle.la_list.specs.Lists.{list_meaning}
+use Rattle.la_list.specs.Lists.{all_standing, also_put, inserts_of, takes_out, taken_out, also_out, list_start}
+use Rattle.la_list.specs.Lists.{list_step, list_meaning}
 
 -- ## Steps of different replicas commute
 
@@ -122,14 +123,14 @@ or_none true = refl
 or_none false = refl
 
 list_means : (us : List Update)
-    → filter (λ e. not (set.contains (after list_start us).deleted e.id)) (in_order (after list_start us).inserts)
-    ≡ filter (λ e. not (taken_out us e.id)) (in_order (inserts_of us))
+    → filter (λ e. not (set.contains (after list_start us).deleted e.id)) (all_standing (after list_start us).inserts)
+    ≡ filter (λ e. not (taken_out us e.id)) (all_standing (inserts_of us))
 list_means us =
-    same_left _ _ (in_order (after list_start us).inserts) (λ e.
+    same_left _ _ (all_standing (after list_start us).inserts) (λ e.
     out_after list_start us e.id
     ∙ ap (λ b. taken_out us e.id || b) (set.contains-empty id_order e.id)
     ∙ or_none (taken_out us e.id))
-    ∙ ap (λ m. filter (λ e. not (taken_out us e.id)) (in_order m)) (puts_after list_start us)
+    ∙ ap (λ m. filter (λ e. not (taken_out us e.id)) (all_standing m)) (puts_after list_start us)
 
 pub list_lawful : IsLawful list_meaning
 list_lawful = record {

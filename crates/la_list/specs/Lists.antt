@@ -37,10 +37,10 @@ with_insert es id insertion =
     if stands es id then es else put_at insertion.behind (record { id = id; value = insertion.value }) es
 
 -- what was put in, one after another in the order of moments
-abbrev pub in_order : InsertMap → List Element
-in_order inserts = fold (λ es entry. with_insert es entry.0.id entry.1) [] (map.entries inserts)
+abbrev pub all_standing : InsertMap → List Element
+all_standing inserts = fold (λ es entry. with_insert es entry.0.id entry.1) [] (map.entries inserts)
 
--- what is put in, and what is done by the update with an id
+-- what was put in, and what the update with an id puts in
 abbrev pub also_put : InsertMap → UpdateId → Option ListOp → InsertMap
 also_put inserts id (Some (Insert behind stamp value)) =
     map.insert inserts (record { stamp = stamp; id = id }) (record { behind = behind; value = value })
@@ -61,7 +61,7 @@ taken_out us id = list_any (λ u. takes_out id (edit_of u.op)) us
 
 -- what updates put in, in order, but for what they take out
 abbrev pub list_value : List Update → List Element
-list_value us = filter (λ e. not (taken_out us e.id)) (in_order (inserts_of us))
+list_value us = filter (λ e. not (taken_out us e.id)) (all_standing (inserts_of us))
 
 -- ## State
 
@@ -84,7 +84,7 @@ list_meaning = record {
   start = λ kind. list_start;
   kind_of = λ s. tt;
   after = λ s u. list_step s u.id (edit_of u.op);
-  reply = λ s question. but_deleted s.deleted (in_order s.inserts);
+  reply = λ s question. but_deleted s.deleted (all_standing s.inserts);
   value = λ kind us question. list_value us;
   in_place = λ kind question. false;
 }

@@ -1,7 +1,7 @@
 ghost use Rattle.std.specs.Prelude.{◌≡◌, ◌↔◌, IsTrue, IfOk, OnOk, OnErr};
 ghost use Rattle.std.specs.FinMap as map;
 ghost use Rattle.la_list.specs.Chains.{IsChain};
-ghost use Rattle.la_list.specs.Lists.{in_order};
+ghost use Rattle.la_list.specs.Lists.{all_standing};
 
 use crate::chain::Chain;
 use la_set::UpdateId;
@@ -93,7 +93,7 @@ impl Inserts {
 
     // The elements that stand, as a chain.
     pub(crate) fn chain(&self, alloc: Global) -> Result<Chain<'_>, AllocError>
-        ensures { IfOk result (λ chain. IsChain chain (in_order self.now)) }
+        ensures { IfOk result (λ chain. IsChain chain (all_standing self.now)) }
     {
         let mut chain = Chain::with_room(alloc, self.of.len())?;
         for (moment, insertion) in self.of.iter() {

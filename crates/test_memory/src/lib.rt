@@ -13,6 +13,8 @@ mod holds;
 #[cfg(test)]
 mod journals;
 #[cfg(test)]
+mod lists;
+#[cfg(test)]
 mod objects;
 #[cfg(test)]
 mod orsets;

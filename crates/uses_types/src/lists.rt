@@ -26,13 +26,6 @@ pub fn putting(
     insert_op(alloc, behind, view.len() as u64, value)
 }
 
-/// The operation that takes out an element.
-pub fn taking_out(alloc: Global, element: &Element) -> Result<Op, OwnError>
-    ensures { IfOk result (λ op. edit_of op ≡ Some (Delete element.now.id)) }
-{
-    delete_op(alloc, element.id)
-}
-
 /// The list under a number, in order, by a node's view.
 pub fn elements(
     shelf: &mut Shelf<ElementList>,
@@ -43,4 +36,11 @@ pub fn elements(
     ensures { IfOk result (λ list. list ≡ list_value (updates_at view.now number)) }
 {
     shelf.ask_by(view, number, &())
+}
+
+/// The operation that takes out an element.
+pub fn taking_out(alloc: Global, element: &Element) -> Result<Op, OwnError>
+    ensures { IfOk result (λ op. edit_of op ≡ Some (Delete element.now.id)) }
+{
+    delete_op(alloc, element.id)
 }

@@ -13,7 +13,8 @@ returns-clause-comes_back c =
     c.as_slice.ensures.value ∙ c.put_all.ensures
     ∙ ap (λ bs. bs ++ value)
     (c.put_place.ensures.items ∙ ap (λ bs. bs ++ place_bytes c.args.behind c.args.stamp) c.new-bytes.ensures) in
-    edit_back c.bytes_come_back.ensures.read does (place_back c.args.behind c.args.stamp value c.ranges.stamp.fits c.put_place.ensures.back)
+    let back = place_back c.args.behind c.args.stamp value c.ranges.stamp.fits c.put_place.ensures.back in
+    edit_back c.bytes_come_back.ensures.read does back
     c.own_op.result
     (λ ok. subst AreOwnBytes bytes (c.own_op.ensures.fits ok))
     (subst (λ bs. IfOk c.own_op.result (λ op. op ≡ own bs)) bytes c.own_op.ensures.ok)

@@ -8,7 +8,8 @@ use Rattle.la_list.specs.Chains.{IsLinked, link_at}
 use Rattle.la_list.proofs.Links.{step, step_is, one_shown}
 use Rattle.la_list.proofs.chain.Chain.shown.Goals as goal
 use Rattle.la_list.proofs.chain.Chain.shown.Goals.{then-not-has+in_ok-copy+in_ok-push, else-not-has}
-use Rattle.la_list.proofs.chain.Chain.shown.Goals.{else-loop-test, then-loop-test+in_default, then-loop-test+in-Some+in_default-get}
+use Rattle.la_list.proofs.chain.Chain.shown.Goals.{else-loop-test, then-loop-test+in_default}
+use Rattle.la_list.proofs.chain.Chain.shown.Goals.{then-loop-test+in-Some+in_default-get}
 
 pub loop-preserved : goal.loop-preserved
 loop-preserved c = λ es is.
@@ -47,7 +48,8 @@ returns c = λ es is.
     elim c.loop-test.branch [
       | else-loop-test w ↦
           c.from.ensures ∙ inv.1
-          ∙ ap (but_deleted c.args.deleted.now) (take_all k es (omega (arith, w.loop-test.false, c.len-end.ensures.len, is.count)))
+          ∙ ap (but_deleted c.args.deleted.now)
+          (take_all k es (omega (arith, w.loop-test.false, c.len-end.ensures.len, is.count)))
       | then-loop-test+in_default w ↦
           let s = step at es k c.loop.at (omega (arith, w.loop-test.true, c.len-end.ensures.len, is.count)) inv.0 in
           absurd (none-some s.e.id (sym w.in_default.is ∙ s.here))

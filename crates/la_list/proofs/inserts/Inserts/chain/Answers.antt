@@ -1,7 +1,7 @@
 use Rattle.std.proofs.Common.{◌≡◌, [], ap, sym, ◌∙◌, subst, rules}
 use Rattle.la_types.proofs.lemmas.FiniteMaps.{sorted-keys, entries-from_entries}
 use Rattle.la_list.specs.Orders.{moment_order, moment_total, moment_tied}
-use Rattle.la_list.specs.Lists.{in_order}
+use Rattle.la_list.specs.Lists.{all_standing}
 use Rattle.la_list.specs.Chains.{IsChain}
 use Rattle.la_list.proofs.InsertCopies.{all_inserted}
 use Rattle.la_list.proofs.inserts.Inserts.chain.Goals as goal
@@ -13,4 +13,5 @@ returns c =
     let order = entries-from_entries moment_total moment_tied es (sorted-keys moment_order es
     c.iter-moment-items.ensures.ordered) in
     let all : inv.0 ≡ all_inserted [] es = search (rules, inv.1.1) in
-    subst (IsChain c.loop-moment.chain) (all ∙ ap (all_inserted []) (sym order) ∙ ap in_order c.self.view_is) inv.1.0
+    let whole = all ∙ ap (all_inserted []) (sym order) ∙ ap all_standing c.self.view_is in
+    subst (IsChain c.loop-moment.chain) whole inv.1.0
