@@ -49,9 +49,9 @@ fn tell(name: &str, start: Instant, came: u64) {
 /// The key with a number, of 8 to 16 bytes.
 fn key_of(number: u32) -> Vec<u8> {
     let spread = u64::from(number).wrapping_mul(0x9e37_79b9_7f4a_7c15);
-    let mut key = spread.to_le_bytes().to_vec();
-    key.extend((0..number % 9).map(|more| more as u8));
-    key
+    let [a, b, c, d, e, f, g, h] = spread.to_le_bytes();
+    let key = [a, b, c, d, e, f, g, h, 0, 1, 2, 3, 4, 5, 6, 7];
+    key[..8 + number as usize % 9].to_vec()
 }
 
 /// What is written under a key.

@@ -85,6 +85,14 @@ module _ {K X : Type 0} {R : K → K → Ordering} (o : IsTotalOrder R) where
         get-lookup fs q ∙ h q ∙ ap (λ b. cond b (Some x) (lookup (is_at (R q)) es)) ((eq_by_cmp_equiv o).symm k q)
         ∙ sym (map.get-insert o (map.from_entries es) k x q ∙ ap (cond (eq_by_cmp R q k) (Some x)) (get-lookup es q)))
 
+    -- what is there, put there again
+    pub put_again : (m : map.FinMap R X) (k : K) (x : X) → map.get m k ≡ Some x → map.insert m k x ≡ m
+    put_again m k x there = map.same_map o tied _ _ (λ q. map.get-insert o m k x q ∙ by q (eq_by_cmp R q k) refl)
+      where
+        by : (q : K) (b : Bool) → eq_by_cmp R q k ≡ b → cond b (Some x) (map.get m q) ≡ map.get m q
+        by q true is = sym (ap (map.get m) (tied q k ((Equal-is (R q k)).0 is)) ∙ there)
+        by q false is = refl
+
     -- one entry after another
     abbrev pub all_put : map.FinMap R X → List (K × X) → map.FinMap R X
     all_put m [] = m
