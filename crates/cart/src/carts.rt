@@ -8,11 +8,10 @@ ghost use Rattle.la_types.specs.CounterMaps.{unreset_sum};
 ghost use Rattle.cart.specs.declared.commands.Command.TheVariants.{Tell};
 ghost use Rattle.cart.specs.Replies.{comes_next, operation_on, cart_reply, view_after};
 
-use crate::CartFault;
 use crate::commands::Command;
 use crate::writing::{fault_name, put_number, put_refusal, put_submission};
 use la_set::{Op, SetError, Update, UpdateSet};
-use la_shelf::{Shelf, ShelfError};
+use la_shelf::Shelf;
 use la_types::{Bytes, COUNTER_KEY_BYTES, CounterMap, add_op, reset_op};
 use la_wire::LineFault;
 use std::alloc::Global;
@@ -39,29 +38,23 @@ impl Model for Carts {
 }
 
 // The operation that puts so many of an article into a cart, where its name is no longer than a key.
-fn putting(alloc: Global, amount: u32, article: &[u8]) -> Result<Option<Op>, CartFault>
+fn putting(alloc: Global, amount: u32, article: &[u8]) -> anyhow::Result<Option<Op>>
     ensures { IfOk result (λ op. op ≡ operation_on article.now (Add amount article.now)) }
 {
     if article.len() > COUNTER_KEY_BYTES {
         return Ok(None);
     }
-    match add_op(alloc, amount, article) {
-        Ok(op) => Ok(Some(op)),
-        Err(_) => Err(CartFault::Memory),
-    }
+    Ok(Some(add_op(alloc, amount, article)?))
 }
 
 // The operation that takes an article out, as far as the updates of a view put it in.
-fn taking_out(alloc: Global, view: &UpdateSet, article: &[u8]) -> Result<Option<Op>, CartFault>
+fn taking_out(alloc: Global, view: &UpdateSet, article: &[u8]) -> anyhow::Result<Option<Op>>
     ensures { IfOk result (λ op. op ≡ operation_on article.now (Reset (counts_of view.now) article.now)) }
 {
     if article.len() > COUNTER_KEY_BYTES {
         return Ok(None);
     }
-    match reset_op(alloc, view.counts(), article) {
-        Ok(op) => Ok(Some(op)),
-        Err(_) => Err(CartFault::Memory),
-    }
+    Ok(Some(reset_op(alloc, view.counts(), article)?))
 }
 
 impl Carts {
@@ -78,7 +71,7 @@ impl Carts {
     }
 
     // Takes an update where it comes next of its replica, and answers whether it does.
-    fn tell(&mut self, update: Update) -> Result<bool, CartFault>
+    fn tell(&mut self, update: Update) -> anyhow::Result<bool>
         ensures next { IfOk result (λ next. next ≡ comes_next self.old update.id) }
         ensures ok { OnOk result (self.new ≡ view_after self.old (Ok (Tell update))) }
         ensures err { OnErr result (self.new ≡ self.old) }
@@ -86,12 +79,12 @@ impl Carts {
         match self.view.push(update) {
             Ok(()) => Ok(true),
             Err(SetError::Gap) => Ok(false),
-            Err(_) => Err(CartFault::Memory),
+            Err(error) => Err(error.into()),
         }
     }
 
     // How many of an article are in the cart under a number: those put in that no taking out had seen.
-    fn count(&mut self, object: u16, article: &Bytes) -> Result<u64, CartFault>
+    fn count(&mut self, object: u16, article: &Bytes) -> anyhow::Result<u64>
         ensures value { IfOk result (λ many. many ≡ unreset_sum (updates_at self.old object) article.now) }
         ensures same { self.new ≡ self.old }
     {
@@ -102,13 +95,13 @@ impl Carts {
     }
 
     /// Takes what a line says, and writes what it is answered: nothing to an update that comes next, to all else a
-    /// line. `Full` comes where all that was put into one cart is above what a `u64` holds, else `Memory`; then no
-    /// update was taken, and a part of the answer may stand there.
+    /// line. It is refused for want of memory, or where all that was put into one cart is above what a `u64` holds; then
+    /// no update was taken, and a part of the answer may stand there.
     pub fn answer(
         &mut self,
         said: Result<Command, LineFault>,
         out: &mut Vec<u8>,
-    ) -> Result<(), CartFault>
+    ) -> anyhow::Result<()>
         ensures view { OnOk result (self.new ≡ view_after self.old said) }
         ensures reply { OnOk result (out.new.items ≡ out.old.items ++ cart_reply self.old said) }
         ensures err { OnErr result (self.new ≡ self.old) }

@@ -12,25 +12,14 @@
 //! | any other | `refused BadLine`, `BadNumber`, `TooLong` or `Gap` |
 //!
 //! R is 0 to 255, O 0 to 65535, X 0 to 4294967295, and an article any bytes but space and LF, at most 215. What is
-//! answered is said by `specs/Replies.antt`, of a whole input by `specs/Sessions.antt`. It ends with its input, with
-//! status 0; or with 1, and `cart: ReadFault`, `WriteFault`, `Memory` or `Full` on standard error.
+//! answered is said by `specs/Replies.antt`, of a whole input by `specs/Sessions.antt`.
 #![tactic(auto)]
 
 mod carts;
 mod commands;
-mod error;
 mod playing;
 mod writing;
 
-pub(crate) use error::CartFault;
-use std::process::ExitCode;
-
-fn main(rt: HostRuntime) -> ExitCode {
-    match playing::play(rt.alloc(), &mut rt.stdin(), &mut rt.stdout()) {
-        Ok(()) => ExitCode::SUCCESS,
-        Err(fault) => {
-            let _told = eprintln!(rt; "cart: {fault}");
-            ExitCode::FAILURE
-        }
-    }
+fn main(rt: HostRuntime) -> anyhow::Result<()> {
+    playing::play(rt.alloc(), &mut rt.stdin(), &mut rt.stdout())
 }

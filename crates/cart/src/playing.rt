@@ -5,10 +5,9 @@ ghost use Rattle.la_io.specs.Limits.{is_too_long};
 ghost use Rattle.la_io.specs.Sources.{ahead};
 ghost use Rattle.cart.specs.Sessions.{said_on_line, HearsLine, IsWholeSession};
 
-use crate::CartFault;
 use crate::carts::Carts;
 use crate::commands::{Command, command_of};
-use la_io::{Next, Source, write_all};
+use la_io::{Next, Source, SourceFault, write_all};
 use la_wire::{LineError, LineFault};
 use std::alloc::Global;
 use std::io::{Read, Write};
@@ -16,14 +15,14 @@ use std::io::{Read, Write};
 /// What a line says, or its fault.
 type Said = Result<Command, LineFault>;
 
-fn said_on(alloc: Global, line: &[u8]) -> Result<Said, CartFault>
+fn said_on(alloc: Global, line: &[u8]) -> anyhow::Result<Said>
     requires { is_too_long line.now ≡ false }
     ensures { IfOk result (λ said. said ≡ said_on_line line.now) }
 {
     match command_of(alloc, line) {
         Ok(command) => Ok(Ok(command)),
         Err(LineError::Fault(fault)) => Ok(Err(fault)),
-        Err(LineError::Memory) => Err(CartFault::Memory),
+        Err(error) => Err(error.into()),
     }
 }
 
@@ -32,7 +31,7 @@ fn hear<R: Read>(
     alloc: Global,
     source: &mut Source,
     input: &mut R,
-) -> Result<Option<Said>, CartFault>
+) -> anyhow::Result<Option<Said>>
     requires { source.old.over ≡ true → IsAtEnd (ahead source.old (R.remaining input.old)) }
     ensures heard { IfOk result (HearsLine (ahead source.old (R.remaining input.old))
         (ahead source.new (R.remaining input.new))) }
@@ -47,13 +46,13 @@ fn hear<R: Read>(
 
 /// Answers all lines of an input, each before it reads on. Of bytes that no line's end follows nothing is taken.
 ///
-/// Else it ends at the first fault: `ReadFault` at a read that fails, and after 2^64-1 lines; `WriteFault` where not
-/// all of an answer is written; `Full`; or `Memory`.
+/// Else it ends at the first fault: a read that fails, also after 2^64-1 lines, an answer of which not all is written,
+/// or one that is refused.
 pub fn play<R: Read, W: Write>(
     alloc: Global,
     input: &mut R,
     output: &mut W,
-) -> Result<(), CartFault>
+) -> anyhow::Result<()>
     ensures { OnOk result (IsWholeSession (R.remaining input.old) (R.remaining input.new)
         (W.contents output.old) (W.contents output.new)) }
 {
@@ -67,5 +66,5 @@ pub fn play<R: Read, W: Write>(
         carts.answer(said, &mut out)?;
         write_all(output, &out)?;
     }
-    Err(CartFault::ReadFault)
+    Err(SourceFault::ReadFault.into())
 }
