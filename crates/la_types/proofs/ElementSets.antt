@@ -14,7 +14,7 @@ use Rattle.std.specs.FinMap as fin
 use Rattle.la_types.specs.KeyOrder.{key_total, key_tied}
 use Rattle.la_types.specs.ByteSets.{ByteSet, has_bytes, with_bytes, without_bytes, set_of_bytes, is_this, tied_bytes}
 use Rattle.la_types.specs.ByteSets.{has-empty, has-with, has-without, has-set_of, same_set}
-use Rattle.la_types.proofs.FiniteMaps.{sorted-keys}
+use Rattle.la_types.proofs.lemmas.FiniteMaps.{sorted-keys}
 
 abbrev order : List ℕ → List ℕ → Ordering
 order = slice_cmp nat_cmp

@@ -8,7 +8,7 @@ use Rattle.la_shelf.specs.Meanings.{Meaning}
 use Rattle.la_types.specs.KeyOrder.{key_total, key_tied}
 use Rattle.la_types.specs.KeyMaps.{KeyMap, map_values, get-map_values, map_values-insert}
 use Rattle.la_types.specs.KeyedObjects.{part_in, part_of, state_under, with_part}
-use Rattle.la_types.proofs.FiniteMaps.{put_again}
+use Rattle.la_types.proofs.lemmas.FiniteMaps.{put_again}
 
 pub on_ok : {A E P Q : Type 0} (r : Result A E) → (P → Q) → OnOk r P → OnOk r Q
 on_ok (Ok a) f p = f p

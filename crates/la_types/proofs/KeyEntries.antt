@@ -13,8 +13,8 @@ use Rattle.std.specs.FinMap as fin
 use Rattle.la_types.specs.KeyOrder.{key_total, key_tied}
 use Rattle.la_types.specs.ByteSets.{is_this, tied_bytes}
 use Rattle.la_types.specs.KeyMaps.{KeyMap, with_keys, map_values, get-map_values}
-use Rattle.la_types.proofs.FiniteMaps.{get-lookup, no_entries, empty_entries, sorted-keys, all_put}
-use Rattle.la_types.proofs.FiniteMaps.{all_put-from_entries}
+use Rattle.la_types.proofs.lemmas.FiniteMaps.{get-lookup, no_entries, empty_entries, sorted-keys, all_put}
+use Rattle.la_types.proofs.lemmas.FiniteMaps.{all_put-from_entries}
 
 abbrev order : List ℕ → List ℕ → Ordering
 order = slice_cmp nat_cmp
