@@ -1,5 +1,5 @@
 // Lines, read.
-ghost use Rattle.std.specs.Prelude.{◌≡◌, ◌==◌};
+ghost use Rattle.std.specs.Prelude.{◌≡◌};
 ghost use Rattle.la_script.specs.Numbers.{u8_max, u16_max, u32_max, number};
 ghost use Rattle.la_script.specs.Words.{bytes_of};
 ghost use Rattle.la_wire.specs.Readings.{GivesOnLine};

@@ -27,11 +27,7 @@ fn said_on(alloc: Global, line: &[u8]) -> anyhow::Result<Said>
 }
 
 // Takes a line, and answers what it says; nothing at the input's end.
-fn hear<R: Read>(
-    alloc: Global,
-    source: &mut Source,
-    input: &mut R,
-) -> anyhow::Result<Option<Said>>
+fn hear<R: Read>(alloc: Global, source: &mut Source, input: &mut R) -> anyhow::Result<Option<Said>>
     requires { source.old.over ≡ true → IsAtEnd (ahead source.old (R.remaining input.old)) }
     ensures heard { IfOk result (HearsLine (ahead source.old (R.remaining input.old))
         (ahead source.new (R.remaining input.new))) }
@@ -48,11 +44,7 @@ fn hear<R: Read>(
 ///
 /// Else it ends at the first fault: a read that fails, also after 2^64-1 lines, an answer of which not all is written,
 /// or one that is refused.
-pub fn play<R: Read, W: Write>(
-    alloc: Global,
-    input: &mut R,
-    output: &mut W,
-) -> anyhow::Result<()>
+pub fn play<R: Read, W: Write>(alloc: Global, input: &mut R, output: &mut W) -> anyhow::Result<()>
     ensures { OnOk result (IsWholeSession (R.remaining input.old) (R.remaining input.new)
         (W.contents output.old) (W.contents output.new)) }
 {
