@@ -1,8 +1,8 @@
 /* smoke.c: three nodes in one process, by every call of lattice.h and every status that a program can meet.
  *
- * Messages go through a bag in this program, which hands them over in any order, loses some and repeats some. Two threads
- * run groups of their own at the same time. One part refuses each allocation of the library in turn: this program has to
- * be linked with --wrap=malloc and --wrap=realloc.
+ * Messages go through a bag in this program, which hands them over in any order, loses some and repeats some. Two
+ * threads run groups of their own at the same time. One part refuses each allocation of the library in turn: this
+ * program has to be linked with --wrap=malloc and --wrap=realloc.
  */
 #include "lattice.h"
 

@@ -15,6 +15,7 @@ CALL = re.compile(DOCS + r'#\[unsafe\(no_mangle\)\]\npub extern "C" fn (\w+)\(([
 STRUCT = re.compile(DOCS + r"#\[repr\(C\)\]\n(?:#\[[^\n]*\]\n)*pub struct (\w+) \{\n(.*?)^\}", re.M | re.S)
 FIELD = re.compile(DOCS + r"^ +(?:pub(?:\(\w+\))? )?(\w+): ([^\n]+),$", re.M)
 STATUS = re.compile(r"^pub const (\w+): u8 = (\d+);", re.M)
+VERSION = re.compile(r"fn lattice_version\(\) -> u32.*?^\{\n +(\d+)\n\}", re.M | re.S)
 OBJECT_KIND = re.compile(r"^ +(\d+) => Some\(Kind::(\w+)\)", re.M)
 UPDATE_KIND = re.compile(r"^ +Op::(\w+)[^=\n]*=> \((\d+),", re.M)
 
@@ -36,6 +37,7 @@ class Sources:
     calls: dict[str, Declared]
     structs: dict[str, Declared]
     numbers: dict[str, dict[str, int]]
+    version: int
 
 
 def text_of(docs: str) -> str:
@@ -76,7 +78,8 @@ def read(crate: Path) -> Sources:
         "object-kinds": {snake(name): int(number) for number, name in OBJECT_KIND.findall(code)},
         "update-kinds": {snake(name): int(number) for name, number in UPDATE_KIND.findall(code)},
     }
-    return Sources(calls, structs, numbers)
+    version = VERSION.search(code)
+    return Sources(calls, structs, numbers, int(version[1]) if version else 0)
 
 
 def base_in(table: Table, base: str, given: bool = True) -> str:
@@ -138,6 +141,8 @@ def faults(table: Table, sources: Sources) -> Iterator[str]:
         yield f"struct {name} is not in the table"
     for struct in table.structs:
         yield from struct_faults(table, struct, sources)
+    if table.version != sources.version:
+        yield f"lattice_version answers {sources.version}, and in the table it is {table.version}"
     yield from number_faults("status", table.statuses, sources.numbers["statuses"])
     kinds = table.named["object-kinds"]
     yield from number_faults("object kind", kinds, sources.numbers["object-kinds"])
