@@ -1,4 +1,5 @@
-/* smoke.c: three nodes in one process, by every call of lattice.h and every status that a program can meet.
+/* smoke.c: three nodes in one process, by every call of lattice.h and every status that a program can meet but
+ * LATTICE_BALLOTS_SPENT, which takes 8,000,000 ballots.
  *
  * Messages go through a bag in this program, which hands them over in any order, loses some and repeats some. Two
  * threads run groups of their own at the same time. One part refuses each allocation of the library in turn: this

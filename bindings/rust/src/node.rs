@@ -276,16 +276,16 @@ impl Node {
         (status == sys::OK).then(|| Update::of(&told, &own[..len]))
     }
 
+    /// The updates that were learnt and not yet handed out, one by one.
+    pub fn learnt(&mut self) -> impl Iterator<Item = Update> {
+        std::iter::from_fn(|| self.next_learnt())
+    }
+
     /// Hands all updates that were learnt and not yet handed out to an object of one's own, and
     /// answers how many there were. An object has to be handed all from the first on, so that a node
     /// has one such object, which may hold others.
     pub fn absorb_into(&mut self, object: &mut impl Absorb) -> usize {
-        let mut count = 0;
-        while let Some(update) = self.next_learnt() {
-            object.absorb(&update);
-            count += 1;
-        }
-        count
+        self.learnt().inspect(|update| object.absorb(update)).count()
     }
 
     /// How many updates of each replica this node's view has.

@@ -167,12 +167,12 @@ fn what_is_learnt_comes_once_and_in_order() {
     group.settle();
     for node in &mut group.nodes {
         let mut numbers = [0; 3];
-        while let Some(Update { replica, number, object, operation }) = node.next_learnt() {
+        for Update { replica, number, object, operation } in node.learnt() {
             numbers[usize::from(replica)] += 1;
             assert_eq!((number, object), (numbers[usize::from(replica)], MAP));
             assert_eq!(operation, Operation::Own(long.to_vec()));
         }
-        assert_eq!(numbers, [10, 10, 10]);
+        assert_eq!((numbers, node.next_learnt()), ([10, 10, 10], None));
     }
 }
 
