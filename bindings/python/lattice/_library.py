@@ -8,15 +8,22 @@ from pathlib import Path
 from . import _calls
 
 HERE = Path(__file__).resolve().parent
-# Beside the package, and where `bindings/build` leaves it.
-PLACES = (HERE / "liblattice.so", HERE.parent.parent / "out" / "liblattice.so")
+
+
+def places() -> list[Path]:
+    """Where the library may be: where `LATTICE_LIBRARY` says, else in the package or where `bindings/build` leaves it."""
+    named = os.environ.get("LATTICE_LIBRARY")
+    if named:
+        return [Path(named)]
+    tree = HERE.parent.parent
+    built = [tree / "out" / "liblattice.so"] if (tree / "calls").is_file() else []
+    return [HERE / "liblattice.so", *built]
 
 
 def load() -> ctypes.CDLL:
-    """The library that `LATTICE_LIBRARY` names, else the one beside the package, else that of the source tree."""
-    named = os.environ.get("LATTICE_LIBRARY")
-    for place in [Path(named)] if named else PLACES:
-        if place.exists():
+    """The library, with its calls declared."""
+    for place in places():
+        if place.is_file():
             library = ctypes.CDLL(str(place))
             _calls.declare(library)
             return library
