@@ -1,0 +1,122 @@
+-- A host: a node with a shelf of objects, what waits to be sent, and what of its view was handed on.
+use Rattle.std.specs.Prelude.{◌≡◌, ◌⊎◌, ⊤, ℕ, ◌<◌, List, [], ◌∷◌, ◌++◌, map, filter, length, Option, Some, None}
+use Rattle.la_set.specs.declared.counts.Counts.{Counts}
+use Rattle.la_set.specs.Counts.{zero_counts}
+use Rattle.la_set.specs.Inclusion.{IsSubset}
+use Rattle.la_set.specs.declared.tags.TheConstants.{MAX_TAGS}
+use Rattle.la_set.specs.declared.update.UpdateId.{UpdateId}
+use Rattle.la_object.specs.declared.error.ShelfError.{ShelfError}
+use Rattle.la_object.specs.declared.error.ShelfError.TheVariants as shelf
+use Rattle.la_replica.specs.Again.{again}
+use Rattle.la_replica.specs.Bases.{AreToldIn}
+use Rattle.la_replica.specs.Whole.{whole_mail}
+use Rattle.la_object.specs.Shelves.{ShelfState}
+use Rattle.la_replica.specs.declared.message.Message as code
+use Rattle.la_replica.specs.ReplicaState.{ReplicaState, submitted_in}
+use Rattle.la_node.specs.declared.link.Letter.{Letter}
+use Rattle.la_node.specs.declared.link.Links.{Links}
+use Rattle.la_node.specs.declared.link.Standing.{Standing}
+use Rattle.la_node.specs.Links.{letters_of, is_owed, no_links}
+use Rattle.la_node.specs.Steps.{Given}
+use Rattle.la_wire.specs.Calls.{WireCall}
+use Rattle.la_durable.specs.Nodes.{acts, empty_shelf}
+use Rattle.la_embed.specs.declared.outgoing.Outgoing.{Outgoing}
+use Rattle.la_embed.specs.declared.outgoing.Outgoing.TheVariants as out
+
+pub record HostState : Type 0 where
+  -- the node's replica
+  pub kept : ReplicaState
+  -- its objects, and what they have absorbed
+  pub shelf : ShelfState
+  -- how far others are, as far as was heard
+  pub links : Links
+  -- what waits to be sent, the oldest first
+  pub mail : List Outgoing
+  -- what of the view was handed on
+  pub handed : Counts
+
+-- the objects have absorbed no more than the view
+abbrev pub IsHost : HostState → Type 0
+IsHost h = IsSubset h.shelf.view h.kept.view
+
+-- a host in which nothing has happened
+abbrev pub host_of : ReplicaState → HostState
+host_of kept =
+    record { kept = kept; shelf = empty_shelf; links = no_links; mail = []; handed = zero_counts }
+
+-- ## What waits to be sent
+
+-- these letters are put behind what waits
+abbrev pub with_letters : List Outgoing → List Letter → List Outgoing
+with_letters mail letters = mail ++ map out.Letter letters
+
+-- A node's mail is put behind what waits, each message as a letter over what is known of its receiver; or there was no
+-- memory, and all of it is lost, as a transport may lose it.
+abbrev pub IsPosted : Links → (after : ReplicaState) → (sent : List code.Message) → (before mail : List Outgoing) → Type 0
+IsPosted links after sent before mail = (mail ≡ with_letters before (letters_of links after sent)) ⊎ (mail ≡ before)
+
+-- a standing is put there, or was lost so
+abbrev pub IsToldBack : Standing → (before mail : List Outgoing) → Type 0
+IsToldBack standing before mail = (mail ≡ before ++ out.Standing standing ∷ []) ⊎ (mail ≡ before)
+
+-- what waits for an answer is put there once more, but for what others are known to have
+abbrev pub IsSentAgain : (before : HostState) → (mail : List Outgoing) → Type 0
+IsSentAgain before mail =
+    (sent : List code.Message) × (whole_mail sent ≡ again before.kept)
+    × ((offered : Counts) → AreToldIn before.kept offered sent)
+    × (mail ≡ with_letters before.mail (letters_of before.links before.kept (filter (is_owed before.links) sent)))
+
+-- why no tags are told
+abbrev pub IsUnseen : Option (List UpdateId) → ShelfError → Type 0
+IsUnseen o shelf.NoSuchObject = o ≡ None
+IsUnseen o shelf.TooManyTags = (tags : List UpdateId) × (o ≡ Some tags) × (MAX_TAGS < length tags)
+IsUnseen o shelf.Memory = ⊤
+IsUnseen o shelf.Taken = ⊥
+IsUnseen o shelf.NotFresh = ⊥
+
+-- ## Steps
+
+-- the node took this call, and what it sends waits; nothing else has changed but what was heard of others
+pub record IsHostStep (before : HostState) (heard : Links) (call : WireCall) (given : Given) (after : HostState)
+    : Type 0 where
+  pub does : acts before.kept call ≡ Some (given, after.kept)
+  pub mail : IsPosted heard after.kept given.mail before.mail after.mail
+  pub links : after.links ≡ heard
+  pub shelf : after.shelf ≡ before.shelf
+  pub handed : after.handed ≡ before.handed
+
+-- so it took a call, whatever the node gave out for it
+abbrev pub TakesCall : HostState → Links → WireCall → HostState → Type 0
+TakesCall before heard call after = (given : Given) × IsHostStep before heard call given after
+
+-- how many updates it has submitted
+abbrev pub number_of : Option ℕ → ℕ
+number_of None = 0
+number_of (Some number) = number
+
+abbrev pub submitted_by : HostState → ℕ
+submitted_by h = number_of (submitted_in h.kept 0)
+
+-- the same with other objects
+abbrev pub with_objects : HostState → ShelfState → HostState
+with_objects h shelf =
+    record { kept = h.kept; shelf = shelf; links = h.links; mail = h.mail; handed = h.handed }
+
+-- its shelf, once that has absorbed the view
+abbrev pub shelf_now : HostState → ShelfState
+shelf_now h = record { view = h.kept.view; objects = h.shelf.objects }
+
+-- the same with what was heard
+abbrev pub with_links : HostState → Links → HostState
+with_links h links =
+    record { kept = h.kept; shelf = h.shelf; links = links; mail = h.mail; handed = h.handed }
+
+-- the same with other mail
+abbrev pub with_mail : HostState → List Outgoing → HostState
+with_mail h mail =
+    record { kept = h.kept; shelf = h.shelf; links = h.links; mail = mail; handed = h.handed }
+
+-- and with so much handed on
+abbrev pub with_handed : HostState → Counts → HostState
+with_handed h handed =
+    record { kept = h.kept; shelf = h.shelf; links = h.links; mail = h.mail; handed = handed }

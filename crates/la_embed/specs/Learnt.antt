@@ -1,0 +1,40 @@
+-- What of a view has been handed on, by counts, and which update comes next.
+use Rattle.std.specs.Prelude.{◌≡◌, ℕ, ◌+◌, ◌<◌, ◌≤◌, ◌==◌, Option, Some, None, if◌then◌else◌}
+use Rattle.la_set.specs.declared.counts.Counts.{Counts}
+use Rattle.la_set.specs.declared.update.Update.{Update}
+use Rattle.la_set.specs.declared.update.UpdateId.{UpdateId}
+use Rattle.la_set.specs.Counts.{count_in, from_counts}
+use Rattle.la_set.specs.Histories.{Histories, count, get}
+
+-- of replicas before this one all updates of a view were handed on
+abbrev pub AreHanded : (handed : Counts) → (view : Histories) → (before : ℕ) → Type 0
+AreHanded handed view before = (q : ℕ) → q < before → count view q ≤ count_in handed q
+
+-- the update comes next: of the first replica of which there are more, the first of these
+pub record IsNextOf (handed : Counts) (view : Histories) (id : UpdateId) : Type 0 where
+  pub number : id.number ≡ count_in handed id.replica + 1
+  pub there : id.number ≤ count view id.replica
+  pub first : AreHanded handed view id.replica
+
+-- or there is none more
+abbrev pub IsNext : (handed : Counts) → (view : Histories) → Option UpdateId → Type 0
+IsNext handed view None = (q : ℕ) → count view q ≤ count_in handed q
+IsNext handed view (Some id) = IsNextOf handed view id
+
+-- the update is the one that comes next
+abbrev pub IsNextLearnt : (handed : Counts) → (view : Histories) → Option Update → Type 0
+IsNextLearnt handed view None = IsNext handed view None
+IsNextLearnt handed view (Some u) = IsNextOf handed view u.id × (get view u.id ≡ Some u)
+
+-- once the update with this id was handed on too
+abbrev pub handed_with : (handed : Counts) → UpdateId → Counts
+handed_with handed id = from_counts (λ r. if r == id.replica then id.number else count_in handed r)
+
+abbrev pub handed_after : (handed : Counts) → Option UpdateId → Counts
+handed_after handed None = handed
+handed_after handed (Some id) = handed_with handed id
+
+-- what was handed on, once that which comes next was, if one does
+abbrev pub HandsOn : (view : Histories) → (before after : Counts) → Type 0
+HandsOn view before after =
+    (next : Option UpdateId) × IsNext before view next × (after ≡ handed_after before next)

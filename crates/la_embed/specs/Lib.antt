@@ -1,0 +1,6 @@
+pub mod Outgoing
+pub mod Learnt
+pub mod Hosts
+pub mod Refusals
+pub mod Receiving
+pub mod Objects

@@ -1,0 +1,48 @@
+ghost use Rattle.std.specs.Prelude.{◌≡◌};
+ghost use Rattle.la_embed.specs.Refusals.{of_node, of_line};
+
+use la_durable::NodeError;
+use la_wire::{LineError, LineFault};
+use thiserror::Error;
+
+/// Why a line from another replica was not taken. The node is then as before.
+#[derive(Clone, Copy, Debug, PartialEq, Eq, Error)]
+pub enum HostError {
+    /// The line has this fault.
+    #[error("{0}")]
+    Line(LineFault),
+
+    /// The line is no message, but something that a client asks of a node.
+    #[error("not a message")]
+    NoMessage,
+
+    /// The node refused the message, as one for another replica or group, or one that fits no honest peer.
+    #[error("{0}")]
+    Node(NodeError),
+
+    /// A growth was refused.
+    #[error("out of memory")]
+    Memory,
+}
+
+impl From<NodeError> for HostError {
+    ghost from_gives = { λ refused e. e ≡ of_node refused };
+
+    fn from(refused: NodeError) -> HostError {
+        match refused {
+            NodeError::Memory => HostError::Memory,
+            other => HostError::Node(other),
+        }
+    }
+}
+
+impl From<LineError> for HostError {
+    ghost from_gives = { λ refused e. e ≡ of_line refused };
+
+    fn from(refused: LineError) -> HostError {
+        match refused {
+            LineError::Fault(fault) => HostError::Line(fault),
+            LineError::Memory => HostError::Memory,
+        }
+    }
+}

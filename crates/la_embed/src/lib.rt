@@ -1,0 +1,21 @@
+//! A node of a group as a library: for programs that hold it in their own process and send its mail by
+//! whatever means they have.
+//!
+//! A [`Host`] is a node with a shelf of objects. Each call is one step of the node; what the step sends
+//! waits in the host until it is pulled, a letter at a time, as the bytes of a line. What is learnt is
+//! handed out update by update, each once. `specs/Hosts.antt` says what a host is and does, and
+//! [`laws`] that hosts stay together.
+#![tactic(auto)]
+
+mod embedded;
+mod error;
+mod host;
+mod learnt;
+mod object;
+mod outgoing;
+
+pub use embedded::Embedded;
+pub use error::HostError;
+pub use host::Host;
+pub use object::AnyObject;
+pub use outgoing::Outgoing;

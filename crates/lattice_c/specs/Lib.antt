@@ -1,0 +1,5 @@
+pub mod Following
+pub mod Sealed
+pub mod Statuses
+pub mod Calls
+pub mod Learning

@@ -1,0 +1,104 @@
+// Nodes made and freed, and their objects.
+ghost use Rattle.std.specs.Prelude.{◌≡◌};
+ghost use Rattle.lattice_c.specs.Calls.{kind_numbered, AddsObject};
+
+use crate::handle::{Handle, Place};
+use crate::status::{BAD_GROUP, BAD_KIND, MEMORY, OK, of_shelf, of_world};
+use la_embed::{AnyObject, Embedded};
+use la_node::Config;
+use la_object::Kind;
+use la_proposer::Votes;
+use std::alloc::Global;
+
+/// The version of this interface: it grows where a call changes or goes.
+#[unsafe(no_mangle)]
+pub extern "C" fn lattice_version() -> u32
+    ensures { result ≡ 1 }
+{
+    1
+}
+
+// The votes of a group: these, or one for each replica where there are none.
+fn votes_of(replicas: u8, votes: &[u16]) -> Option<Votes> {
+    if !votes.is_empty() {
+        return Votes::new(votes).ok();
+    }
+    if replicas < 1 || replicas > 8 {
+        return None;
+    }
+    Some(Votes::one_each(replicas))
+}
+
+/// Makes replica `own` of a group in which nothing has happened, and puts it into a place, which then is a handle.
+/// The group has 1 to 8 replicas with so many votes each (one each where none are given), up to 16 adopt-commit
+/// objects, and a cap of 1 to 1,000,000 updates a replica.
+///
+/// In this order: `BAD_GROUP` where one of these is out of its range; `NO_REPLICA`; `MEMORY`. Then the place is as
+/// before.
+#[unsafe(no_mangle)]
+pub extern "C" fn lattice_node_new(
+    alloc: Global,
+    replicas: u8,
+    own: u8,
+    commits: u8,
+    cap: u32,
+    votes: &[u16],
+    out: &mut Place,
+) -> u8 {
+    let Some(votes) = votes_of(replicas, votes) else {
+        return BAD_GROUP;
+    };
+    let config = Config {
+        replicas,
+        commits,
+        cap,
+        votes,
+    };
+    let node = match Embedded::new(alloc, config, own) {
+        Ok(node) => node,
+        Err(refused) => return of_world(refused),
+    };
+    match Box::new(alloc, node) {
+        Ok(node) => {
+            *out = Place::of(node);
+            OK
+        }
+        Err(_) => MEMORY,
+    }
+}
+
+/// Frees a node. The handle, and each copy of it, is then no handle.
+#[unsafe(no_mangle)]
+pub extern "C" fn lattice_node_free(handle: Handle) {
+    drop(handle);
+}
+
+// The kind with a number: 0, 1 and 2 in their order.
+fn kind_numbered(kind: u8) -> Option<Kind>
+    ensures { result ≡ kind_numbered kind }
+{
+    match kind {
+        0 => Some(Kind::Counter),
+        1 => Some(Kind::MaxRegister),
+        2 => Some(Kind::OrSet),
+        _ => None,
+    }
+}
+
+/// Adds an object under a number: of kind 0 a counter, of kind 1 a max register, of kind 2 an observed-remove set.
+///
+/// `BAD_KIND` comes for any other kind, `TAKEN` where the number has an object, and else `MEMORY`.
+#[unsafe(no_mangle)]
+pub extern "C" fn lattice_add(handle: &mut Handle, object: u16, kind: u8) -> u8
+    ensures { AddsObject handle.old.host.host object (kind_numbered kind) result handle.new.host.host }
+{
+    let Some(kind) = kind_numbered(kind) else {
+        return BAD_KIND;
+    };
+    let inner = handle.inner();
+    let object_made = AnyObject::new(inner.alloc, kind);
+    match inner.host.add(object, object_made) {
+        Ok(()) => OK,
+        Err(refused) => of_shelf(refused),
+    }
+}

@@ -1,0 +1,148 @@
+// Statuses: one number for each way in which a call ends. `bindings/calls` has their names for other languages.
+ghost use Rattle.std.specs.Prelude.{◌≡◌};
+ghost use Rattle.lattice_c.specs.Statuses.{of_line, of_replica, of_world, of_node, of_host, of_shelf, of_own};
+
+use la_durable::NodeError;
+use la_embed::HostError;
+use la_node::WorldError;
+use la_object::ShelfError;
+use la_own::OwnError;
+use la_replica::ReplicaError;
+use la_wire::LineFault;
+
+pub const OK: u8 = 0;
+
+pub const MEMORY: u8 = 1;
+
+pub const NONE: u8 = 2;
+
+pub const SMALL: u8 = 3;
+
+pub const FOREIGN: u8 = 4;
+
+pub const NO_OBJECT: u8 = 5;
+
+pub const TAKEN: u8 = 6;
+
+pub const NOT_FRESH: u8 = 7;
+
+pub const TOO_MANY_TAGS: u8 = 8;
+
+pub const TOO_LARGE: u8 = 9;
+
+pub const BAD_GROUP: u8 = 10;
+
+pub const NO_REPLICA: u8 = 11;
+
+pub const NO_INSTANCE: u8 = 12;
+
+pub const FULL: u8 = 13;
+
+pub const NO_BASE: u8 = 14;
+
+pub const GAP: u8 = 15;
+
+pub const CLASH: u8 = 16;
+
+pub const BALLOTS_SPENT: u8 = 17;
+
+pub const NO_COMMIT: u8 = 18;
+
+pub const ALREADY_PROPOSED: u8 = 19;
+
+pub const ELSEWHERE: u8 = 20;
+
+pub const NO_MESSAGE: u8 = 21;
+
+pub const TOO_LONG: u8 = 22;
+
+pub const BAD_LINE: u8 = 23;
+
+pub const BAD_NUMBER: u8 = 24;
+
+pub const BAD_KIND: u8 = 25;
+
+pub fn of_line(fault: LineFault) -> u8
+    ensures { result ≡ of_line fault }
+{
+    match fault {
+        LineFault::TooLong => TOO_LONG,
+        LineFault::BadLine => BAD_LINE,
+        LineFault::BadNumber => BAD_NUMBER,
+    }
+}
+
+pub fn of_replica(refused: ReplicaError) -> u8
+    ensures { result ≡ of_replica refused }
+{
+    match refused {
+        ReplicaError::NoSuchReplica => NO_REPLICA,
+        ReplicaError::NoSuchInstance => NO_INSTANCE,
+        ReplicaError::Full => FULL,
+        ReplicaError::NoBase => NO_BASE,
+        ReplicaError::Gap => GAP,
+        ReplicaError::Clash(_) => CLASH,
+        ReplicaError::BallotsSpent => BALLOTS_SPENT,
+        ReplicaError::Memory => MEMORY,
+    }
+}
+
+pub fn of_world(refused: WorldError) -> u8
+    ensures { result ≡ of_world refused }
+{
+    match refused {
+        WorldError::BadConfig => BAD_GROUP,
+        WorldError::NoSuchReplica => NO_REPLICA,
+        WorldError::Full => FULL,
+        WorldError::NoSuchMessage => NO_MESSAGE,
+        WorldError::NoSuchCommit => NO_COMMIT,
+        WorldError::AlreadyProposed => ALREADY_PROPOSED,
+        WorldError::NoSuchObject => NO_OBJECT,
+        WorldError::TooManyTags => TOO_MANY_TAGS,
+        WorldError::Memory => MEMORY,
+    }
+}
+
+pub fn of_node(refused: NodeError) -> u8
+    ensures { result ≡ of_node refused }
+{
+    match refused {
+        NodeError::Elsewhere => ELSEWHERE,
+        NodeError::Unkept => NO_MESSAGE,
+        NodeError::Replica(refused) => of_replica(refused),
+        NodeError::Proposal(refused) => of_world(refused),
+        NodeError::Memory => MEMORY,
+    }
+}
+
+pub fn of_host(refused: HostError) -> u8
+    ensures { result ≡ of_host refused }
+{
+    match refused {
+        HostError::Line(fault) => of_line(fault),
+        HostError::NoMessage => NO_MESSAGE,
+        HostError::Node(refused) => of_node(refused),
+        HostError::Memory => MEMORY,
+    }
+}
+
+pub fn of_shelf(refused: ShelfError) -> u8
+    ensures { result ≡ of_shelf refused }
+{
+    match refused {
+        ShelfError::Taken => TAKEN,
+        ShelfError::NotFresh => NOT_FRESH,
+        ShelfError::NoSuchObject => NO_OBJECT,
+        ShelfError::TooManyTags => TOO_MANY_TAGS,
+        ShelfError::Memory => MEMORY,
+    }
+}
+
+pub fn of_own(refused: OwnError) -> u8
+    ensures { result ≡ of_own refused }
+{
+    match refused {
+        OwnError::TooLong => TOO_LARGE,
+        OwnError::Memory => MEMORY,
+    }
+}
