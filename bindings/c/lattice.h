@@ -273,7 +273,9 @@ uint8_t lattice_next_learnt(lattice_node *handle, lattice_learnt *out, uint8_t *
 /* How many updates of each replica the view has. */
 void lattice_view(lattice_node *handle, uint32_t counts[8]);
 
-/* How many updates of each replica another node's view has at least, as far as was heard. */
+/* How many updates of each replica another node's view has at least, as far as was heard: none, of
+ * a replica of 8 or more.
+ */
 void lattice_known(lattice_node *handle, uint8_t replica, uint32_t counts[8]);
 
 /* How many updates the node has submitted: the number of the last. */

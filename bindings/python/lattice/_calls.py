@@ -214,7 +214,8 @@ CALLS = [
     ("lattice_next_learnt", c_uint8, [POINTER(Node), POINTER(Learnt), POINTER(c_uint8), c_size_t, POINTER(c_size_t)]),
     # How many updates of each replica the view has.
     ("lattice_view", None, [POINTER(Node), POINTER(c_uint32 * 8)]),
-    # How many updates of each replica another node's view has at least, as far as was heard.
+    # How many updates of each replica another node's view has at least, as far as was heard: none,
+    # of a replica of 8 or more.
     ("lattice_known", None, [POINTER(Node), c_uint8, POINTER(c_uint32 * 8)]),
     # How many updates the node has submitted: the number of the last.
     ("lattice_submitted", c_uint32, [POINTER(Node)]),

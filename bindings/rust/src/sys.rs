@@ -281,7 +281,8 @@ unsafe extern "C" {
     /// How many updates of each replica the view has.
     pub fn lattice_view(handle: *mut lattice_node, counts: *mut [u32; 8]);
 
-    /// How many updates of each replica another node's view has at least, as far as was heard.
+    /// How many updates of each replica another node's view has at least, as far as was heard:
+    /// none, of a replica of 8 or more.
     pub fn lattice_known(handle: *mut lattice_node, replica: u8, counts: *mut [u32; 8]);
 
     /// How many updates the node has submitted: the number of the last.
