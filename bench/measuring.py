@@ -15,16 +15,27 @@ from typing import NamedTuple
 BENCH = Path(__file__).resolve().parent
 TOP = BENCH.parent
 MEBIBYTE = 2**20
-REPLICA = ("la_set", "la_acceptor", "la_proposer", "la_commit", "la_replica", "la_object", "la_node", "la_world")
+# Where Debian's packages put the sources of crates.
+REGISTRY = Path("/usr/share/cargo/registry")
+MANIFEST = """[package]
+name = "{name}"
+version = "0.1.0"
+edition = "2021"
+[dependencies]
+crdts = {{ version = "7.2.0", default-features = false, features = ["num"] }}
+"""
+OBJECTS = ("la_set", "la_shelf", "la_object")
+REPLICA = (*OBJECTS, "la_acceptor", "la_proposer", "la_commit", "la_replica", "la_node", "la_world")
 # The Rattle programs, and which of our crates each stands on.
 PROGRAMS = {
     "deltas": REPLICA,
     "growth": (*REPLICA, "la_script"),
     "questions": REPLICA,
-    "sets": ("la_set", "la_object", "la_orset"),
+    "sets": (*OBJECTS, "la_orset"),
     "shared": ("la_set", "la_acceptor", "la_shared"),
-    "shelf": ("la_set", "la_object"),
-    "threads": ("la_set", "la_acceptor", "la_shared", "la_proposer", "la_commit", "la_object", "la_runner"),
+    "shelf": OBJECTS,
+    "threads": (*OBJECTS, "la_acceptor", "la_shared", "la_proposer", "la_commit", "la_runner"),
+    "types": ("la_set", "la_own", "la_shelf", "la_types", "la_list"),
 }
 
 
@@ -41,6 +52,19 @@ def build_plain(folder: Path, name: str, *flags: str) -> Path:
     words = ["rustc", "--edition", "2021", "-O", *flags, str(BENCH / f"{name}.rs"), "-o", str(program)]
     subprocess.run(words, check=True)
     return program
+
+
+def build_with_crdts(folder: Path, name: str) -> Path:
+    """Builds the program of this name over the crate crdts, by the sources of Debian's package librust-crdts-dev."""
+    crate = folder / "beside" / name
+    (crate / "src").mkdir(parents=True)
+    (crate / "Cargo.toml").write_text(MANIFEST.format(name=name))
+    shutil.copy(BENCH / f"{name}.rs", crate / "src" / "main.rs")
+    sources = ['source.crates-io.replace-with="debian"', f'source.debian.directory="{REGISTRY}"']
+    words = ["cargo", "build", "-q", "--release", "--offline"]
+    words += [word for source in sources for word in ("--config", source)]
+    subprocess.run(words, cwd=crate, check=True)
+    return crate / "target" / "release" / name
 
 
 def make_workspace(folder: Path, names: Sequence[str]) -> None:

@@ -3,8 +3,9 @@
 A log's entry is a word, a node's number and a line: `start`, a life begins, where so many bytes are behind the
 journal's groups; `given`, a line on its standard input; `out`, one that it printed; `said`, one on standard error;
 `killed`; `power`, what its loss left of the journal; `flipped`, what a start came to where a bit of it had flipped;
-`ended`, with the status; and `last`, from which on nothing is submitted. The first word of a fault is the rule that
-is broken.
+`ended`, with the status; `told`, a line that the cart program beside it was told; `cart`, one that this was asked, and
+behind a `: ` what it answered; and `last`, from which on nothing is submitted. The first word of a fault is the rule
+that is broken.
 """
 from __future__ import annotations
 
@@ -12,6 +13,7 @@ import re
 from collections import Counter, defaultdict, deque
 from dataclasses import dataclass, field
 
+from . import carts
 from .hearing import Hearing, Told, larger, smaller, within
 from .lines import (
     FAULTY, FORMS, NOTHING, Counts, Malformed, Message, Standing, apart, read_counts, read_message, read_note,
@@ -76,6 +78,8 @@ class Seen:
     sent: Counter[str] = field(default_factory=Counter)
     refused: int = 0
     journal: Counts = (0, 0)
+    # What its cart program was told.
+    told: carts.Told = field(default_factory=dict)
 
     def begin(self) -> None:
         """A life begins."""
@@ -154,6 +158,21 @@ class Checker:
         self.nodes[own].begin()
         if torn != "0":
             self.nodes[own].to_say.append(f"cut {torn}")
+
+    def take_told(self, own: int, line: str) -> None:
+        """The cart program is told what its node told, each update once."""
+        word, (_, replica, number, text, *_) = read_note(line.partition(" @")[0], own)
+        self.content(0, (int(replica), int(number), text))
+        if word != "update" or self.nodes[own].told.setdefault((int(replica), int(number)), text) is not text:
+            self.fault("carts", own, f"{line}: told before")
+
+    def take_cart(self, own: int, line: str) -> None:
+        """It answers by what it was told; and all alike at the end."""
+        asked, _, text = line.partition(": ")
+        if text != (wanted := carts.answer(self.nodes[own].told, asked)):
+            self.fault("carts", own, f"{asked}: {text}, not {wanted}")
+        if self.last and asked.startswith("cart "):
+            self.answers[own, asked].add(text)
 
     def take_said(self, own: int, line: str) -> None:
         to_say = self.nodes[own].to_say

@@ -6,6 +6,7 @@ import time
 from collections import Counter
 from pathlib import Path
 
+from . import carts
 from .check import Checker, Entry, Group
 from .clients import Client
 from .disks import flipped
@@ -35,9 +36,12 @@ def receiver(message: str) -> int:
 
 
 class Run:
-    """A group, its network, and what was noted of both. What is preloaded into its nodes notes what they sync."""
+    """A group, its network, and what was noted of both. What is preloaded into its nodes notes what they sync. Words of
+    a cart program call for one beside each node."""
 
-    def __init__(self, program: str, seed: int, nodes: int | None, folder: Path, preload: dict[str, str]) -> None:
+    def __init__(
+        self, program: str, seed: int, nodes: int | None, folder: Path, preload: dict[str, str], cart: list[str]
+    ) -> None:
         self.draw = random.Random(seed)
         self.group = drawn_group(self.draw, nodes)
         self.compact = seed % 2
@@ -49,6 +53,7 @@ class Run:
             (folder / str(own)).mkdir(parents=True)
             words = [program, *self.options(own), "--journal", str(folder / str(own))]
             self.nodes.append(Node(words, own, folder / str(own), self.note, preload))
+        self.carts = {it.own: carts.Cart(cart) for it in self.nodes} if cart else {}
         self.work = self.drawn_work()
         # Of some nodes, whose clients number their submissions.
         self.clients = {it.own: Client(it.own) for it in self.nodes if self.draw.random() < 0.6}
@@ -90,6 +95,8 @@ class Run:
         """What is submitted; so many strays go to any object."""
         words = ("inc", "inc", "dec", "raise", "put", "put", "put", "remove", "take", "take", "mark", "own", "own")
         word = self.draw.choice(words)
+        if self.carts and self.draw.random() < 0.8:
+            return self.drawn_cart(own)
         number = {"inc": 1, "dec": 1, "raise": 2, "mark": self.draw.randint(1, 3), "own": OWN}.get(word, 3)
         number = number if self.draw.random() >= strays else self.draw.choice((0, 1, 2, 3, 65535))
         if (number, word) == (3, "take"):
@@ -104,6 +111,13 @@ class Run:
         often = self.draw.choice((1, 2)) if word == "put" else self.draw.randint(0, 5)
         value = often if self.draw.random() < 0.95 else largest
         return f"{number} {word}" if word == "mark" else f"{number} {word} {value}"
+
+    def drawn_cart(self, own: int) -> str:
+        """What a client puts into a cart or takes out, by what its node tells then."""
+        self.tell_cart(own)
+        while not (found := self.ask_cart(own, carts.command(self.draw, own))).startswith("submit "):
+            pass
+        return found.split(" ", 2)[2]
 
     def drawn_bytes(self) -> str:
         """The bytes of an operation of one's own, as a word."""
@@ -290,6 +304,31 @@ class Run:
             self.checker.fault("half", node.own, f"{done.stderr!r}, {done.stdout!r}, status {done.returncode}")
         node.start()
 
+    def tell_cart(self, own: int) -> None:
+        """A node tells its cart program what this was not told of the view."""
+        node, seen, begin = self.nodes[own], self.checker.nodes[own], len(self.log)
+        told = [sum(replica == it for replica, _ in seen.told) for it in range(len(seen.view))]
+        new = [f"{it}.{at}" for it, most in enumerate(seen.view) for at in range(told[it] + 1, most + 1)]
+        self.post(node.give([f"update {own} {it}{self.drawn_name()}" for it in new]))
+        for line in [it for word, by, it in self.log[begin:] if (word, by) == ("out", own) and " update " in it]:
+            self.note(("told", own, line))
+            self.carts[own].write(line)
+
+    def ask_cart(self, own: int, line: str) -> str:
+        found = self.carts[own].ask(line)
+        self.note(("cart", own, f"{line}: {found}"))
+        return found
+
+    def ask_carts(self) -> None:
+        """Each cart program is told what there is, and asked for all."""
+        for own, cart in self.carts.items():
+            self.tell_cart(own)
+            for line in [f"cart {it} {article}" for it in carts.CARTS for article in carts.ARTICLES]:
+                self.ask_cart(own, line)
+            if (came := cart.end()) != (b"", 0):
+                self.checker.fault("carts", own, f"it ends with {came}")
+        self.carts.clear()
+
     def ask_all(self) -> None:
         """Asks all, behind what was submitted last; how each stands; and proposes once more what each has proposed."""
         made = [max(it.submitted, default=1) for it in self.checker.nodes]
@@ -314,6 +353,7 @@ class Run:
         self.put_and_take()
         self.note(("last", 0, ""))
         self.ask_all()
+        self.ask_carts()
         self.apart(self.draw.choice(self.nodes))
         for node in self.nodes:
             node.end()
@@ -326,6 +366,9 @@ class Run:
 
     def stop(self) -> None:
         """Ends what is left of it."""
+        for cart in self.carts.values():
+            cart.process.kill()
+            cart.end()
         for node in self.nodes:
             if node.process:
                 node.process.kill()

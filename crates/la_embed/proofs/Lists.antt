@@ -1,5 +1,6 @@
 -- Lists that are gone through one by one.
-use Rattle.std.proofs.Common.{◌≡◌, ◌&&◌, ◌+◌, ℕ, Bool, List, [], ◌∷◌, ◌++◌, append-nil, length, map, take, Some, refl, sym, ap}
+use Rattle.std.proofs.Common.{◌≡◌, ◌&&◌, ◌+◌, ℕ, Bool, List, [], ◌∷◌, ◌++◌, append-nil, length, map, take, Some, refl}
+use Rattle.std.proofs.Common.{sym, ap}
 use Rattle.std.proofs.Common.{◌∙◌, arith, slice_get, get_or}
 use Rattle.std.specs.List.{list_all}
 use Rattle.std.proofs.lemmas.List.{append_assoc}
@@ -11,7 +12,8 @@ use Rattle.la_embed.specs.declared.outgoing.Outgoing.{Outgoing}
 use Rattle.la_embed.specs.declared.outgoing.Outgoing.TheVariants as out
 
 -- one update more is looked at
-pub one_looked_at : (p : Update → Bool) (us : List Update) (k : ℕ) (u : Update) (before : Bool) → slice_get us k ≡ Some u
+pub one_looked_at : (p : Update → Bool) (us : List Update) (k : ℕ) (u : Update) (before : Bool)
+    → slice_get us k ≡ Some u
     → before ≡ list_all p (take k us) → (before && p u) ≡ list_all p (take (k + 1) us)
 one_looked_at p us k u before at is =
     sym (list_all_more p us k u (slice_get_within us k u at)

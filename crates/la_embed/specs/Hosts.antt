@@ -52,7 +52,8 @@ with_letters mail letters = mail ++ map out.Letter letters
 
 -- A node's mail is put behind what waits, each message as a letter over what is known of its receiver; or there was no
 -- memory, and all of it is lost, as a transport may lose it.
-abbrev pub IsPosted : Links → (after : ReplicaState) → (sent : List code.Message) → (before mail : List Outgoing) → Type 0
+abbrev pub IsPosted : Links → (after : ReplicaState) → (sent : List code.Message) → (before mail : List Outgoing)
+    → Type 0
 IsPosted links after sent before mail = (mail ≡ with_letters before (letters_of links after sent)) ⊎ (mail ≡ before)
 
 -- a standing is put there, or was lost so
@@ -60,8 +61,8 @@ abbrev pub IsToldBack : Standing → (before mail : List Outgoing) → Type 0
 IsToldBack standing before mail = (mail ≡ before ++ out.Standing standing ∷ []) ⊎ (mail ≡ before)
 
 -- what waits for an answer is put there once more, but for what others are known to have
-abbrev pub IsSentAgain : (before : HostState) → (mail : List Outgoing) → Type 0
-IsSentAgain before mail =
+abbrev pub IsPostedAgain : (before : HostState) → (mail : List Outgoing) → Type 0
+IsPostedAgain before mail =
     (sent : List code.Message) × (whole_mail sent ≡ again before.kept)
     × ((offered : Counts) → AreToldIn before.kept offered sent)
     × (mail ≡ with_letters before.mail (letters_of before.links before.kept (filter (is_owed before.links) sent)))
@@ -90,12 +91,12 @@ abbrev pub TakesCall : HostState → Links → WireCall → HostState → Type 0
 TakesCall before heard call after = (given : Given) × IsHostStep before heard call given after
 
 -- how many updates it has submitted
-abbrev pub number_of : Option ℕ → ℕ
-number_of None = 0
-number_of (Some number) = number
+abbrev pub number_or_none : Option ℕ → ℕ
+number_or_none None = 0
+number_or_none (Some number) = number
 
 abbrev pub submitted_by : HostState → ℕ
-submitted_by h = number_of (submitted_in h.kept 0)
+submitted_by h = number_or_none (submitted_in h.kept 0)
 
 -- the same with other objects
 abbrev pub with_objects : HostState → ShelfState → HostState

@@ -17,13 +17,13 @@ pub record IsNextOf (handed : Counts) (view : Histories) (id : UpdateId) : Type 
   pub first : AreHanded handed view id.replica
 
 -- or there is none more
-abbrev pub IsNext : (handed : Counts) → (view : Histories) → Option UpdateId → Type 0
-IsNext handed view None = (q : ℕ) → count view q ≤ count_in handed q
-IsNext handed view (Some id) = IsNextOf handed view id
+abbrev pub IsNextId : (handed : Counts) → (view : Histories) → Option UpdateId → Type 0
+IsNextId handed view None = (q : ℕ) → count view q ≤ count_in handed q
+IsNextId handed view (Some id) = IsNextOf handed view id
 
 -- the update is the one that comes next
 abbrev pub IsNextLearnt : (handed : Counts) → (view : Histories) → Option Update → Type 0
-IsNextLearnt handed view None = IsNext handed view None
+IsNextLearnt handed view None = IsNextId handed view None
 IsNextLearnt handed view (Some u) = IsNextOf handed view u.id × (get view u.id ≡ Some u)
 
 -- once the update with this id was handed on too
@@ -35,6 +35,6 @@ handed_after handed None = handed
 handed_after handed (Some id) = handed_with handed id
 
 -- what was handed on, once that which comes next was, if one does
-abbrev pub HandsOn : (view : Histories) → (before after : Counts) → Type 0
-HandsOn view before after =
-    (next : Option UpdateId) × IsNext before view next × (after ≡ handed_after before next)
+abbrev pub HandsOnNext : (view : Histories) → (before after : Counts) → Type 0
+HandsOnNext view before after =
+    (next : Option UpdateId) × IsNextId before view next × (after ≡ handed_after before next)

@@ -1,5 +1,6 @@
 -- What a host makes of a line from another replica.
-use Rattle.std.specs.Prelude.{◌≡◌, ◌⊎◌, ℕ, nat_le, ◌==◌, Bool, true, false, ◌&&◌, List, [], ◌∷◌, Ok, Err, Result, length, drop}
+use Rattle.std.specs.Prelude.{◌≡◌, ◌⊎◌, ℕ, nat_le, ◌==◌, Bool, true, false, ◌&&◌, List, [], ◌∷◌, Ok, Err, Result}
+use Rattle.std.specs.Prelude.{length, drop}
 use Rattle.std.specs.Prelude.{Option, Some, None, if◌then◌else◌}
 use Rattle.std.specs.List.{list_all}
 use Rattle.la_set.specs.declared.counts.Counts.{Counts}
@@ -25,7 +26,7 @@ use Rattle.la_embed.specs.declared.error.HostError.TheVariants.{Line, NoMessage,
 use Rattle.la_embed.specs.declared.outgoing.Outgoing.{Outgoing}
 use Rattle.la_embed.specs.declared.outgoing.Outgoing.TheVariants as out
 use Rattle.la_embed.specs.Hosts.{HostState, TakesCall, IsToldBack, with_links, with_mail}
-use Rattle.la_embed.specs.Refusals.{of_node}
+use Rattle.la_embed.specs.Refusals.{host_error_of_node}
 
 -- ## Whether a letter brings news
 
@@ -46,8 +47,8 @@ brings_nothing view letter = (letter.parcel.instance == 0) && has_told view lett
 -- ## What a host makes of it
 
 -- for this replica of this group
-abbrev pub is_for : ReplicaState → (replicas to : ℕ) → Bool
-is_for kept replicas to = (replicas == length kept.votes) && (to == kept.own)
+abbrev pub is_for_host : ReplicaState → (replicas to : ℕ) → Bool
+is_for_host kept replicas to = (replicas == length kept.votes) && (to == kept.own)
 
 -- what is known once a letter was heard
 abbrev pub links_by : Links → Letter → Links
@@ -62,42 +63,43 @@ IsTaken before letter false after =
     TakesCall before (links_by before.links letter) (Receive (letter_message letter)) after
 
 pub record TakesLetter (before : HostState) (letter : Letter) (after : HostState) : Type 0 where
-  pub here : is_for before.kept letter.replicas letter.parcel.to ≡ true
+  pub here : is_for_host before.kept letter.replicas letter.parcel.to ≡ true
   pub taken : IsTaken before letter (brings_nothing before.kept.view letter) after
 
 -- a letter, or how far another is, was read
 abbrev pub TakesRead : HostState → Result WireCall LineFault → HostState → Type 0
 TakesRead before (Err fault) after = ⊥
-TakesRead before (Ok (Receive m)) after = (letter : Letter) × (letter_message letter ≡ m) × TakesLetter before letter after
+TakesRead before (Ok (Receive m)) after = (letter : Letter) × (letter_message letter ≡ m)
+    × TakesLetter before letter after
 TakesRead before (Ok (Known s)) after =
-    (is_for before.kept s.replicas s.to ≡ true)
+    (is_for_host before.kept s.replicas s.to ≡ true)
     × (after ≡ with_links before (known_with before.links s.from s.progress))
 TakesRead before (Ok (Submit replica object op)) after = ⊥
 TakesRead before (Ok (Decide replica commit value)) after = ⊥
 TakesRead before (Ok (Ask replica object query)) after = ⊥
 TakesRead before (Ok Tick) after = ⊥
 
-abbrev pub TakesLine : HostState → (line : List ℕ) → HostState → Type 0
-TakesLine before line after = TakesRead before (bounded_call_of line) after
+abbrev pub TakesHostLine : HostState → (line : List ℕ) → HostState → Type 0
+TakesHostLine before line after = TakesRead before (bounded_call_of line) after
 
 -- ## Refusals
 
 -- what a client asks for is no message
-abbrev pub is_message : WireCall → Bool
-is_message (Receive m) = true
-is_message (Known s) = true
-is_message _ = false
+abbrev pub is_from_peer : WireCall → Bool
+is_from_peer (Receive m) = true
+is_from_peer (Known s) = true
+is_from_peer _ = false
 
 -- a letter for another, or one that the node refuses
 abbrev pub RefusesHere : ReplicaState → Letter → HostError → Type 0
 RefusesHere kept letter e =
-    ((is_for kept letter.replicas letter.parcel.to ≡ false) × (e ≡ Node Elsewhere))
-    ⊎ ((is_for kept letter.replicas letter.parcel.to ≡ true)
-    × ((refused : NodeError) × RefusesLetter kept letter refused × (e ≡ of_node refused)))
+    ((is_for_host kept letter.replicas letter.parcel.to ≡ false) × (e ≡ Node Elsewhere))
+    ⊎ ((is_for_host kept letter.replicas letter.parcel.to ≡ true)
+    × ((refused : NodeError) × RefusesLetter kept letter refused × (e ≡ host_error_of_node refused)))
 
 abbrev pub RefusesCall : ReplicaState → WireCall → HostError → Type 0
 RefusesCall kept (Receive m) e = (letter : Letter) × (letter_message letter ≡ m) × RefusesHere kept letter e
-RefusesCall kept (Known s) e = (is_for kept s.replicas s.to ≡ false) × (e ≡ Node Elsewhere)
+RefusesCall kept (Known s) e = (is_for_host kept s.replicas s.to ≡ false) × (e ≡ Node Elsewhere)
 RefusesCall kept (Submit replica object op) e = e ≡ NoMessage
 RefusesCall kept (Decide replica commit value) e = e ≡ NoMessage
 RefusesCall kept (Ask replica object query) e = e ≡ NoMessage
@@ -107,8 +109,8 @@ abbrev pub RefusesRead : ReplicaState → Result WireCall LineFault → HostErro
 RefusesRead kept (Err fault) e = (e ≡ Line fault) ⊎ (e ≡ Memory)
 RefusesRead kept (Ok call) e = RefusesCall kept call e ⊎ (e ≡ Memory)
 
-abbrev pub IsReceiveRefusal : HostState → (line : List ℕ) → HostError → Type 0
-IsReceiveRefusal before line e = RefusesRead before.kept (bounded_call_of line) e
+abbrev pub IsLineRefusal : HostState → (line : List ℕ) → HostError → Type 0
+IsLineRefusal before line e = RefusesRead before.kept (bounded_call_of line) e
 
 -- ## What it sends to itself
 

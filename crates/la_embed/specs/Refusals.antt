@@ -6,10 +6,10 @@ use Rattle.la_durable.specs.declared.error.NodeError.TheVariants as node
 use Rattle.la_embed.specs.declared.error.HostError.{HostError}
 use Rattle.la_embed.specs.declared.error.HostError.TheVariants.{Line, Node, Memory}
 
-abbrev pub of_node : NodeError → HostError
-of_node node.Memory = Memory
-of_node e = Node e
+abbrev pub host_error_of_node : NodeError → HostError
+host_error_of_node node.Memory = Memory
+host_error_of_node e = Node e
 
-abbrev pub of_line : LineError → HostError
-of_line (line.Fault fault) = Line fault
-of_line line.Memory = Memory
+abbrev pub host_error_of_line : LineError → HostError
+host_error_of_line (line.Fault fault) = Line fault
+host_error_of_line line.Memory = Memory

@@ -1,5 +1,5 @@
 ghost use Rattle.std.specs.Prelude.{◌≡◌};
-ghost use Rattle.la_embed.specs.Refusals.{of_node, of_line};
+ghost use Rattle.la_embed.specs.Refusals.{host_error_of_node, host_error_of_line};
 
 use la_durable::NodeError;
 use la_wire::{LineError, LineFault};
@@ -26,7 +26,7 @@ pub enum HostError {
 }
 
 impl From<NodeError> for HostError {
-    ghost from_gives = { λ refused e. e ≡ of_node refused };
+    ghost from_gives = { λ refused e. e ≡ host_error_of_node refused };
 
     fn from(refused: NodeError) -> HostError {
         match refused {
@@ -37,7 +37,7 @@ impl From<NodeError> for HostError {
 }
 
 impl From<LineError> for HostError {
-    ghost from_gives = { λ refused e. e ≡ of_line refused };
+    ghost from_gives = { λ refused e. e ≡ host_error_of_line refused };
 
     fn from(refused: LineError) -> HostError {
         match refused {

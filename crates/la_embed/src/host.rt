@@ -14,11 +14,11 @@ ghost use Rattle.la_wire.specs.Calls.{called, Submit, Decide};
 ghost use Rattle.la_node.specs.Links.{standing_of};
 ghost use Rattle.la_durable.specs.Nodes.{empty_shelf, kept_by};
 ghost use Rattle.la_durable.specs.Errors.{IsActRefusal, RefusesSubmission, RefusesProposal};
-ghost use Rattle.la_embed.specs.Learnt.{IsNextLearnt, HandsOn};
+ghost use Rattle.la_embed.specs.Learnt.{IsNextLearnt, HandsOnNext};
 ghost use Rattle.la_embed.specs.Hosts.{host_of, shelf_now, submitted_by, with_handed, with_mail, with_objects};
-ghost use Rattle.la_embed.specs.Hosts.{TakesCall, IsPosted, IsToldBack, IsSentAgain, IsUnseen, with_letters};
-ghost use Rattle.la_embed.specs.Receiving.{TakesLine, TakesLetter, RefusesHere, IsReceiveRefusal, BringsOwn, own_first};
-ghost use Rattle.la_embed.specs.Receiving.{is_for, brings_nothing, has_told, is_counted};
+ghost use Rattle.la_embed.specs.Hosts.{TakesCall, IsPosted, IsToldBack, IsPostedAgain, IsUnseen, with_letters};
+ghost use Rattle.la_embed.specs.Receiving.{TakesHostLine, TakesLetter, RefusesHere, IsLineRefusal, BringsOwn, own_first};
+ghost use Rattle.la_embed.specs.Receiving.{is_for_host, brings_nothing, has_told, is_counted};
 
 use crate::learnt::{handed_with, next_id};
 use crate::{HostError, Outgoing};
@@ -220,7 +220,7 @@ impl<B: Replicated> Host<B> {
         ensures error { IfErr result (RefusesHere self.old.kept letter) }
         ensures err { OnErr result (self.new ≡ self.old) }
     {
-        if !is_for(&self.machine, letter.replicas, letter.parcel.to) {
+        if !is_for_host(&self.machine, letter.replicas, letter.parcel.to) {
             return Err(HostError::Node(NodeError::Elsewhere));
         }
         let from = letter.parcel.from;
@@ -243,14 +243,14 @@ impl<B: Replicated> Host<B> {
     /// `Node(Elsewhere)` where it is for another replica or group; `Node` where the node refuses the message, as no
     /// honest peer's is refused. `Memory` may come at any line. After each the host is as before.
     pub fn receive(&mut self, line: &[u8]) -> Result<(), HostError>
-        ensures ok { OnOk result (TakesLine self.old line.now self.new) }
-        ensures error { IfErr result (IsReceiveRefusal self.old line.now) }
+        ensures ok { OnOk result (TakesHostLine self.old line.now self.new) }
+        ensures error { IfErr result (IsLineRefusal self.old line.now) }
         ensures err { OnErr result (self.new ≡ self.old) }
     {
         match read_bounded(self.alloc, line)? {
             Call::Receive(letter) => self.take(letter),
             Call::Known(standing) => {
-                if !is_for(&self.machine, standing.replicas, standing.to) {
+                if !is_for_host(&self.machine, standing.replicas, standing.to) {
                     return Err(HostError::Node(NodeError::Elsewhere));
                 }
                 self.links.hear(standing.from, standing.progress);
@@ -265,7 +265,7 @@ impl<B: Replicated> Host<B> {
     /// Puts what waits for an answer behind what is to be sent once more, but for sets that their receivers are known
     /// to have: what a timer is to call. After a refusal nothing has changed.
     pub fn again(&mut self) -> Result<(), AllocError>
-        ensures ok { OnOk result (IsSentAgain self.old self.new.mail) }
+        ensures ok { OnOk result (IsPostedAgain self.old self.new.mail) }
         ensures same { self.new ≡ with_mail self.old self.new.mail }
         ensures err { OnErr result (self.new ≡ self.old) }
     {
@@ -316,7 +316,7 @@ impl<B: Replicated> Host<B> {
     /// Takes note that what was to be handed on next was: nothing, where all of the view were.
     pub fn handed_on(&mut self)
         ensures same { self.new ≡ with_handed self.old self.new.handed }
-        ensures handed { HandsOn self.old.kept.view self.old.handed self.new.handed }
+        ensures handed { HandsOnNext self.old.kept.view self.old.handed self.new.handed }
     {
         if let Some(id) = next_id(self.handed, self.view()) {
             self.handed = handed_with(self.handed, id);
@@ -389,8 +389,8 @@ fn owed(
 }
 
 // Whether a message is for this replica of this group.
-fn is_for(machine: &NodeMachine, replicas: u8, to: u8) -> bool
-    ensures { result ≡ is_for (kept_by machine.now) replicas to }
+fn is_for_host(machine: &NodeMachine, replicas: u8, to: u8) -> bool
+    ensures { result ≡ is_for_host (kept_by machine.now) replicas to }
 {
     replicas == machine.node.replicas() && to == machine.node.own()
 }

@@ -1,13 +1,13 @@
 // What of a view was handed on, by counts, and what comes next.
 ghost use Rattle.std.specs.Prelude.{◌≡◌, if◌then◌else◌, ◌==◌};
 ghost use Rattle.la_set.specs.Counts.{count_in};
-ghost use Rattle.la_embed.specs.Learnt.{IsNext, handed_with};
+ghost use Rattle.la_embed.specs.Learnt.{IsNextId, handed_with};
 
 use la_set::{Counts, REPLICAS, UpdateId, UpdateSet};
 
 /// The id of the update that comes next: of the first replica of which there are more, the first of these.
 pub fn next_id(handed: Counts, view: &UpdateSet) -> Option<UpdateId>
-    ensures { IsNext handed view.now result }
+    ensures { IsNextId handed view.now result }
 {
     for replica in 0..REPLICAS {
         let number = handed.of(replica);

@@ -1,11 +1,13 @@
 -- What is written into tags is read back.
-use Rattle.std.proofs.Common.{◌≡◌, ℕ, zero, suc, ◌+◌, ◌*◌, ◌/◌, ◌%◌, ◌<◌, ◌≤◌, List, [], ◌∷◌, length, drop, map}
+use Rattle.std.proofs.Common.{◌≡◌, ℕ, zero, suc, ◌+◌, ◌*◌, ◌/◌, ◌%◌, ◌<◌, ◌≤◌, List, [], ◌∷◌, ◌++◌, length}
+use Rattle.std.proofs.Common.{drop, map}
 use Rattle.std.proofs.Common.{get_or, All, refl, ap, sym, ◌∙◌, subst, inl, inr, arith}
 use Rattle.std.specs.Int.{w32, to_le_bytes}
 use Rattle.std.specs.List.{range_with_len}
 use Rattle.std.proofs.lemmas.Bool.{cases_lt}
 use Rattle.std.proofs.lemmas.List.{get_or-drop, get_or_past, get_or_default}
 use Rattle.std.proofs.lemmas.List.FromFn.{fill_by_all, get_or-map-range_with_len, length-map-range_with_len}
+use Rattle.std.proofs.lemmas.List.FromFn.{map-range_with_len_more}
 use Rattle.std.proofs.lemmas.Nat.{le_bytes_4}
 use Rattle.la_set.specs.declared.update.UpdateId.{UpdateId}
 use Rattle.la_set.specs.Ids.{IsBelow}
@@ -136,3 +138,40 @@ bytes_are_own bytes few small = record {
   few = few;
   small = λ k d lt. omega (arith, small k, get_or_default bytes k d 0 lt);
 }
+
+-- ## Four bytes at a time
+
+four_more : (xs : List ℕ) (a b c d : ℕ)
+    → (((xs ++ a ∷ []) ++ b ∷ []) ++ c ∷ []) ++ d ∷ [] ≡ xs ++ a ∷ b ∷ c ∷ d ∷ []
+four_more [] a b c d = refl
+four_more (x ∷ xs) a b c d = ap (λ rest. x ∷ rest) (four_more xs a b c d)
+
+module _ (tags : List UpdateId) (place : ℕ) where
+  byte_of : (from k : ℕ) → from ≡ 4 * place + k → k < 4
+      → byte_at tags from ≡ get_or (to_le_bytes w32 (word_of (get_or tags (place + 1) no_tag))) k 0
+  byte_of from k at lt =
+      let quotient : from / 4 ≡ place = omega (arith, at) in
+      let rest : from % 4 ≡ k = omega (arith, at) in
+      λ i. get_or (to_le_bytes w32 (word_of (get_or tags (quotient i + 1) no_tag))) (rest i) 0
+
+  next : (k m : ℕ) → m ≡ k + 1 → (xs : List ℕ) → map (byte_at tags) (range_with_len 0 k) ≡ xs
+      → map (byte_at tags) (range_with_len 0 m) ≡ xs ++ byte_at tags k ∷ []
+  next k m more xs is =
+      ap (λ j. map (byte_at tags) (range_with_len 0 j)) more
+      ∙ map-range_with_len_more (byte_at tags) 0 k k (omega arith)
+      ∙ ap (λ ys. ys ++ byte_at tags k ∷ []) is
+
+  -- so many words' bytes, and those of the next
+  pub word_more : map (byte_at tags) (range_with_len 0 (4 * (place + 1)))
+      ≡ map (byte_at tags) (range_with_len 0 (4 * place))
+      ++ to_le_bytes w32 (word_of (get_or tags (place + 1) no_tag))
+  word_more =
+      let n = 4 * place in
+      next (n + 3) (4 * (place + 1)) (omega arith) _ (next (n + 2) (n + 3) (omega arith) _
+      (next (n + 1) (n + 2) (omega arith) _ (next n (n + 1) (omega arith) _ refl)))
+      ∙ four_more _ _ _ _ _
+      ∙ (λ i. map (byte_at tags) (range_with_len 0 n)
+      ++ byte_of n 0 (omega arith) (omega arith) i
+      ∷ byte_of (n + 1) 1 (omega arith) (omega arith) i
+      ∷ byte_of (n + 2) 2 (omega arith) (omega arith) i
+      ∷ byte_of (n + 3) 3 (omega arith) (omega arith) i ∷ [])

@@ -2,6 +2,8 @@ ghost use Rattle.std.specs.Prelude.{◌≡◌, ◌↔◌, ◌+◌, ◌/◌, ◌<
 ghost use Rattle.std.specs.Prelude.{slice_index, slice_index_or, OnOk};
 ghost use Rattle.std.specs.Prelude.{All, IsOk, IsTrue, IfOk, IfErr, OnErr, IfSome, IfNone};
 ghost use Rattle.std.specs.List.{range_with_len};
+ghost use Rattle.std.specs.Int.{w32, to_le_bytes};
+ghost use Rattle.arrayvec.specs.ArrayVec.{array_vec_len};
 ghost use Rattle.la_set.specs.declared.update.Op.TheVariants.{Remove};
 ghost use Rattle.la_set.specs.Ids.{IsBelow};
 ghost use Rattle.la_own.specs.Own.{AreOwnBytes, IsOwn, own, own_tags, word_count, word_at};
@@ -128,6 +130,14 @@ fn word_at(bytes: &[u8], place: usize) -> u32
     ensures { result ≡ word_at bytes.now place }
 {
     let from = 4 * place;
+    if from + 4 <= bytes.len() {
+        return u32::from_le_bytes([
+            bytes[from],
+            bytes[from + 1],
+            bytes[from + 2],
+            bytes[from + 3],
+        ]);
+    }
     u32::from_le_bytes([
         byte_or_zero(bytes, from),
         byte_or_zero(bytes, from + 1),
@@ -179,13 +189,15 @@ fn word_of(tag: UpdateId) -> u32
     tag.number.saturating_sub(1) % TOP + TOP * (tag.replica % 2) as u32
 }
 
-// The byte at a place of what the tags behind the first carry.
-fn byte_at(tags: &Tags, place: usize) -> u8
-    requires { place < OWN_BYTES }
-    ensures { result ≡ byte_at tags.now place }
+// Puts the four bytes of a word behind others, for which there is room.
+fn put_word(bytes: &mut ArrayVec<u8, OWN_BYTES>, word: u32)
+    requires { array_vec_len bytes.old + 4 ≤ OWN_BYTES }
+    ensures { bytes.new.items ≡ bytes.old.items ++ to_le_bytes w32 word }
 {
-    let word = word_of(tag_at(tags, place / 4 + 1));
-    word.to_le_bytes()[place % 4]
+    match bytes.try_extend_from_slice(&word.to_le_bytes()) {
+        Ok(()) => {}
+        Err(_) => unreachable!(),
+    }
 }
 
 // How many bytes the first tag says that there are.
@@ -216,9 +228,10 @@ fn bytes_in(tags: &Tags, told: usize) -> OwnBytes
     ensures { result ≡ map (byte_at tags.now) (range_with_len 0 told) }
 {
     let mut bytes = ArrayVec::new();
-    for place in 0..told {
-        bytes.push(byte_at(tags, place));
+    for place in 0..(told + 3) / 4 {
+        put_word(&mut bytes, word_of(tag_at(tags, place + 1)));
     }
+    bytes.truncate(told);
     OwnBytes { bytes }
 }
 

@@ -1,9 +1,14 @@
 mod CountBytes
 mod FlagBytes
 mod WriteBytes
-mod FiniteMaps
+pub mod lemmas
 mod KeyedCopies
 mod KeyedBytes
 mod MultiBytes
 mod CounterBytes
 mod Kept
+mod ElementSets
+mod ElementBytes
+mod KeyEntries
+mod PartBytes
+mod KeptParts

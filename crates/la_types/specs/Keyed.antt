@@ -1,5 +1,5 @@
 -- Writes under keys: of each key the last.
-use Rattle.std.specs.Prelude.{ℕ, nat_le, Bool, true, ◌&&◌, List, ◌∷◌, ◌++◌, length, take, drop, slice_index, Option}
+use Rattle.std.specs.Prelude.{ℕ, nat_le, ◌&&◌, List, ◌∷◌, ◌++◌, length, take, drop, slice_index, Option}
 use Rattle.std.specs.Prelude.{Some, None, refl, if◌then◌else◌}
 use Rattle.std.specs.List.{filter_map}
 use Rattle.std.specs.Option.{option_and_then}
@@ -13,7 +13,7 @@ use Rattle.la_set.specs.declared.update.Op.{Op}
 use Rattle.la_set.specs.declared.update.Update.{Update}
 use Rattle.la_own.specs.Own.{own, own_bytes_of}
 use Rattle.la_types.specs.declared.write.Write.{Write}
-use Rattle.la_types.specs.Writes.{precedes, later}
+use Rattle.la_types.specs.Writes.{later}
 
 -- ## Finite maps from keys to writes
 
@@ -38,11 +38,6 @@ Keyed = List ℕ × Write
 abbrev pub or_later : Option Write → Write → Write
 or_later None write = write
 or_later (Some last) write = later last write
-
--- the write comes before none that is there
-abbrev pub is_last : Option Write → Write → Bool
-is_last None write = true
-is_last (Some last) write = precedes last write
 
 abbrev pub with_keyed : KeyedWrites → Option Keyed → KeyedWrites
 with_keyed m None = m

@@ -18,3 +18,12 @@ pub mod Multis
 pub mod MultiLaws
 pub mod CounterMaps
 pub mod CounterMapLaws
+pub mod ByteSets
+pub mod Elements
+pub mod GrowSets
+pub mod GrowSetLaws
+pub mod TwoPhaseSets
+pub mod TwoPhaseSetLaws
+pub mod KeyMaps
+pub mod KeyedObjects
+pub mod KeyedObjectLaws

@@ -6,8 +6,8 @@ ghost use Rattle.la_types.specs.CounterMaps.{counter_step, amount_beyond, amount
 ghost use Rattle.la_types.specs.CounterMaps.{key_seen, key_beyond};
 ghost use Rattle.la_types.specs.Refusals.{IsCounterRefusal, IsKeepRefusal, IsCountingRefusal};
 
-use crate::Bytes;
 use crate::bytes::{Written, behind, count_at, counts_in, put_all, put_counts};
+use crate::{Begins, Bytes};
 use la_own::{OwnError, laws, own_bytes, own_op};
 use la_set::{Counts, Op, REPLICAS, Update, UpdateId};
 use la_shelf::{Absorbs, Refusal};
@@ -334,4 +334,10 @@ impl Absorbs for CounterMap {
     }
 
     ghost lawful = { counter_lawful };
+}
+
+impl Begins for CounterMap {
+    fn begin(alloc: Global) -> CounterMap {
+        CounterMap::new(alloc)
+    }
 }

@@ -6,6 +6,7 @@ ghost use Rattle.la_types.specs.Flags.{flag_bytes, plain_flag_op, flag_op, flag_
 ghost use Rattle.la_types.specs.Flags.{flag_read, flag_step, is_ahead};
 ghost use Rattle.la_types.specs.declared.flag.FlagOp.TheVariants.{Enable};
 
+use crate::Begins;
 use crate::bytes::{Written, counts_in, put_counts};
 use la_own::{OwnError, laws, own_bytes, own_op};
 use la_set::{Counts, Op, REPLICAS, Update, UpdateId};
@@ -150,6 +151,12 @@ impl Absorbs for Flag {
     }
 
     ghost lawful = { flag_lawful };
+}
+
+impl Begins for Flag {
+    fn begin(_alloc: Global) -> Flag {
+        Flag::new()
+    }
 }
 
 // The state once an update with this id has done this.

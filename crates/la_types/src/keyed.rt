@@ -1,7 +1,8 @@
 ghost use Rattle.std.specs.Prelude.{◌≡◌, ◌↔◌, Some, IsTrue, IfOk, OnOk, OnErr};
 ghost use Rattle.std.specs.Option.{option_copied};
 ghost use Rattle.std.specs.FinMap as map;
-ghost use Rattle.la_types.specs.Keyed.{with_keyed, is_last};
+ghost use Rattle.la_types.specs.Keyed.{with_keyed};
+ghost use Rattle.la_types.specs.Writes.{later};
 
 use crate::{Bytes, Write};
 use la_set::UpdateId;
@@ -50,16 +51,6 @@ impl KeyedWrites {
         self.of.get(key)
     }
 
-    // Whether the write there comes before this one, or none is there.
-    fn is_last(&self, key: &Bytes, write: &Write) -> bool
-        ensures { result ≡ is_last (map.get self.now key.now) write.now }
-    {
-        match self.get(key) {
-            Some(last) => last.is_before(write.stamp, write.id),
-            None => true,
-        }
-    }
-
     // Puts a write under a key, in the place of the one there.
     fn insert(&mut self, key: Bytes, write: Write) -> Result<(), AllocError>
         ensures ok { OnOk result (self.new ≡ map.insert self.old key write) }
@@ -75,7 +66,8 @@ impl KeyedWrites {
         ensures ok { OnOk result (self.new ≡ with_keyed self.old (Some (key, write))) }
         ensures err { OnErr result (self.new ≡ self.old) }
     {
-        if !self.is_last(&key, &write) {
+        if let Some(last) = self.of.get_mut(&key) {
+            keep_later(last, write);
             return Ok(());
         }
         self.insert(key, write)
@@ -90,5 +82,14 @@ impl KeyedWrites {
             copy.insert(key.copy()?, write.copy()?)?;
         }
         Ok(copy)
+    }
+}
+
+// Puts a write in the place of another, where that comes before it.
+fn keep_later(last: &mut Write, write: Write)
+    ensures { last.new ≡ later last.old write }
+{
+    if last.is_before(write.stamp, write.id) {
+        *last = write;
     }
 }

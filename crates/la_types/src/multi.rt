@@ -7,8 +7,8 @@ ghost use Rattle.la_types.specs.Bytes.{plain};
 ghost use Rattle.la_types.specs.Multis.{multi_op, multi_of, multi_start, beyond_seen};
 ghost use Rattle.la_types.specs.Refusals.{IsMultiRefusal};
 
-use crate::Bytes;
 use crate::bytes::{Written, behind, counts_in, put_all, put_counts};
+use crate::{Begins, Bytes};
 use la_own::{OwnError, laws, own_bytes, own_op};
 use la_set::{Counts, Op, REPLICAS, Sequence, Update};
 use la_shelf::{Absorbs, Refusal};
@@ -211,6 +211,12 @@ impl Absorbs for MultiRegister {
     }
 
     ghost lawful = { multi_lawful };
+}
+
+impl Begins for MultiRegister {
+    fn begin(alloc: Global) -> MultiRegister {
+        MultiRegister::new(alloc)
+    }
 }
 
 fn copy_of(entry: &Option<Entry>) -> Result<Option<Entry>, AllocError>

@@ -2,7 +2,7 @@ ghost use Rattle.std.specs.Prelude.{◌≡◌, None, IfErr, OnOk, OnErr};
 
 use crate::bytes::behind;
 use crate::write::{stamp_in, take};
-use crate::{Bytes, Write};
+use crate::{Begins, Bytes, Write};
 use la_own::own_bytes;
 use la_set::Update;
 use la_shelf::{Absorbs, Refusal};
@@ -86,4 +86,10 @@ impl Absorbs for Register {
     }
 
     ghost lawful = { register_lawful };
+}
+
+impl Begins for Register {
+    fn begin(alloc: Global) -> Register {
+        Register::new(alloc)
+    }
 }

@@ -6,7 +6,7 @@ ghost use Rattle.la_types.specs.Refusals.{IsKeyedRefusal};
 
 use crate::bytes::{Written, behind, put_all};
 use crate::write::stamp_in;
-use crate::{Bytes, KeyedWrites, Write};
+use crate::{Begins, Bytes, KeyedWrites, Write};
 use la_own::{OwnError, laws, own_bytes, own_op};
 use la_set::{Op, Update};
 use la_shelf::{Absorbs, Refusal};
@@ -120,4 +120,10 @@ impl Absorbs for WriteMap {
     }
 
     ghost lawful = { write_map_lawful };
+}
+
+impl Begins for WriteMap {
+    fn begin(alloc: Global) -> WriteMap {
+        WriteMap::new(alloc)
+    }
 }

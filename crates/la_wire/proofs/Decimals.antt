@@ -41,9 +41,9 @@ number-decimal low high n l h few =
     let small : n < 2 ^ 64 = omega arith in
     number-of (decimal n) n low high (decimal-canonical n small) (decimal_is_IsNumeral n small).1 l h
 
--- a byte that parts neither words nor parts, as all bytes of words are
+-- a byte that parts neither words nor parts, nor a line from a name, as all bytes of words are
 abbrev pub is_plain : ℕ → Bool
-is_plain b = leb 44 b && not (eqb b 59)
+is_plain b = leb 44 b && (not (eqb b 59) && not (eqb b 64))
 
 abbrev pub IsPlain : List ℕ → Type 0
 IsPlain w = All (λ b. is_plain b ≡ true) w

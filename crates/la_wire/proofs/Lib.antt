@@ -26,3 +26,4 @@ pub mod QuestionLines
 pub mod OwnTexts
 pub mod OwnLines
 pub mod NoteParts
+pub mod ToldBack

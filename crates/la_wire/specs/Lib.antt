@@ -14,3 +14,4 @@ pub mod Notes
 pub mod Status
 pub mod States
 pub mod SameStates
+pub mod Told

@@ -1,19 +1,23 @@
 // What the definitions mean: laws over every call, which no code runs.
 ghost use Rattle.std.specs.Prelude.{◌≡◌, ◌≤◌, ◌+◌, ◌*◌, ◌↔◌, ◌∷◌, ◌++◌, ℕ, List, true, false, length, All, Some, None};
-ghost use Rattle.std.specs.Prelude.{Ok, IsTrue, codes};
+ghost use Rattle.std.specs.Prelude.{[], Ok, IsTrue, codes};
 ghost use Rattle.la_set.specs.declared.update.Op.{Op};
+ghost use Rattle.la_set.specs.declared.update.Update.{Update};
 ghost use Rattle.la_set.specs.declared.update.UpdateId.{UpdateId};
 ghost use Rattle.la_replica.specs.Parcels.{AreAlikeParcels};
 ghost use Rattle.la_node.specs.declared.link.Letter.{Letter};
 ghost use Rattle.la_script.specs.declared.forms.Keyword.TheVariants as keyword;
 ghost use Rattle.la_script.specs.Forms.{spelling};
+ghost use Rattle.la_script.specs.Numbers.{u8_max};
 ghost use Rattle.la_script.specs.Text.{id_text};
 ghost use Rattle.la_io.specs.Limits.{is_too_long};
 ghost use Rattle.la_wire.specs.Messages.{WireMessage, letter_message};
 ghost use Rattle.la_wire.specs.MessageLines.{carried, message_text};
 ghost use Rattle.la_wire.specs.Calls.{WireCall, Submit, Receive};
 ghost use Rattle.la_wire.specs.CallLines.{call_line_text, named_call, bounded_call_of, may_stand};
-ghost use Rattle.la_wire.specs.Writable.{IsId, IsCall, IsMessage, IsTypedMessage, IsTagless};
+ghost use Rattle.la_wire.specs.Writable.{IsId, IsCall, IsMessage, IsTypedMessage, IsTagless, IsUpdate};
+ghost use Rattle.la_wire.specs.Notes.{update_note};
+ghost use Rattle.la_wire.specs.Told.{told_line, update_in_note};
 ghost use Rattle.la_wire.specs.Tests.{is_call};
 ghost use Rattle.la_wire.specs.Requests.{has_no_at, is_name, is_of_peer, asked_in, nameless};
 ghost use Rattle.la_wire.specs.Joined.{front_word};
@@ -85,6 +89,14 @@ pub fn questions_are_read_apart()
     ensures no_question { (line : List ℕ) (c : WireCall) → named_call line ≡ Some c → question_in line ≡ None }
     ensures no_take { (line : List ℕ) (c : WireCall) → named_call line ≡ Some c → take_in line ≡ None }
     ensures none_awaited { (line : List ℕ) (c : WireCall) → named_call line ≡ Some c → awaited_in line ≡ None }
+{}
+
+/// What a node tells of an update, in answer to a request with a name or without one, is read as that update.
+pub fn told_updates_are_read_back()
+    ensures line { (own : ℕ) (u : Update) (name : List ℕ) → update_note own u name ≡ told_line own u name ++ 10 ∷ [] }
+    ensures nameless { (own : ℕ) (u : Update) → own ≤ u8_max → IsUpdate u → update_in_note (told_line own u []) ≡ Ok u }
+    ensures named { (own : ℕ) (u : Update) (name : List ℕ) → own ≤ u8_max → IsUpdate u → is_name name ≡ true
+        → update_in_note (told_line own u name) ≡ Ok u }
 {}
 
 /// Whether a call can be had is a test.

@@ -51,8 +51,8 @@
 //! written N syncs N`.
 //!
 //! `specs/Messages.antt` has what letters say, `specs/Updates.antt` and `specs/MessageLines.antt` the lines,
-//! `specs/Questions.antt` and `specs/Notes.antt` what a client asks and is answered, `specs/Status.antt` how a node
-//! stands, and `specs/States.antt` the texts of states.
+//! `specs/Questions.antt` and `specs/Notes.antt` what a client asks and is answered, `specs/Told.antt` how it reads an update
+//! back, `specs/Status.antt` how a node stands, and `specs/States.antt` the texts of states.
 #![tactic(auto)]
 
 mod calls;
@@ -66,6 +66,7 @@ mod requests;
 mod states;
 mod status;
 mod telling;
+mod told;
 mod updates;
 mod words;
 mod writing;
@@ -83,5 +84,6 @@ pub use requests::{MAX_NAME, NumberedCall, Request, numbered_in, request_in};
 pub use states::{put_state, same_state, state_in};
 pub use status::{Kinds, NodeStatus, Tally, put_status};
 pub use telling::{TOLD_BYTES, refuse, tell_fault};
+pub use told::update_in_note;
 pub use writing::{put_letter, write};
 pub use wrongs::{Wanted, Wrong, wrong_part};

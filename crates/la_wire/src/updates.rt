@@ -183,8 +183,8 @@ fn op_in(alloc: Global, words: &[&[u8]]) -> Result<Op, LineError>
     }
 }
 
-// The update that words say.
-fn update_in(alloc: Global, words: &[&[u8]]) -> Result<Update, LineError>
+/// The update that words say.
+pub(crate) fn update_in(alloc: Global, words: &[&[u8]]) -> Result<Update, LineError>
     ensures { GivesOnLine (λ update. update) (update_in (bytes_of words.now)) result }
 {
     let (id, words) = first_id(words)?;

@@ -8,14 +8,10 @@ use Rattle.std_heap.specs.contracts.GlobalAllocator.TheImpl.{ghosts, dict}
 use Rattle.std_heap.proofs.Global.TheLaws as heap
 use Rattle.la_embed.specs.contracts.embedded.Embedded as Host
 use Rattle.la_embed.proofs.embedded.Embedded.TheLaws as host
-use Rattle.lattice_c.specs.contracts.parts.Parts as Parts
 use Rattle.lattice_c.specs.contracts.handle.Handle as Handle
 
 abbrev pub E : Bx
 E = record { row = Host.the_row; laws = host.the_row_laws; al = record { row = Heap.the_row; laws = heap.the_row_laws; g = ghosts; d = dict; drops = impl [] tnil dnil } }
-
-abbrev pub FromParts : Slot 0
-FromParts = plain (λ _. Parts.the_row Host.the_row Heap.the_row ghosts)
 
 abbrev pub FromHandle : Slot 0
 FromHandle = plain (λ _. Handle.the_row)

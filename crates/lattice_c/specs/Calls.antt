@@ -1,5 +1,6 @@
 -- What a call of C does to a node, and the status that says so.
-use Rattle.std.specs.Prelude.{◌≡◌, ◌⊎◌, ◌<◌, ℕ, ◌==◌, Bool, true, false, List, [], ◌∷◌, ◌++◌, length, drop, slice_get, Option, Some, None, if◌then◌else◌}
+use Rattle.std.specs.Prelude.{◌≡◌, ◌⊎◌, ◌<◌, ℕ, ◌==◌, Bool, true, false, List, [], ◌∷◌, ◌++◌, length, drop, slice_get}
+use Rattle.std.specs.Prelude.{Option, Some, None, if◌then◌else◌}
 use Rattle.std.specs.Prelude.{ℤ}
 use Rattle.la_set.specs.declared.update.Op.{Op}
 use Rattle.la_set.specs.declared.update.Op.TheVariants.{Remove}
@@ -23,7 +24,7 @@ use Rattle.la_embed.specs.declared.outgoing.Outgoing.{Outgoing}
 use Rattle.la_embed.specs.Hosts.{HostState, TakesCall, shelf_now, submitted_by, with_mail, with_objects, IsUnseen}
 use Rattle.la_embed.specs.Outgoing.{receiver, outgoing_text}
 use Rattle.la_embed.specs.Receiving.{BringsOwn, own_first}
-use Rattle.lattice_c.specs.Statuses.{Ends, of_node, of_own, of_shelf}
+use Rattle.lattice_c.specs.Statuses.{EndsSo, status_of_node, status_of_own, status_of_shelf}
 
 -- ## Submissions
 
@@ -40,24 +41,24 @@ HasSubmitted before object op after told =
 abbrev pub SubmitFails : HostState → (number status told : ℕ) → HostState → Type 0
 SubmitFails before number status told after =
     IsAsBefore before after number told
-    × Ends ⊥ (RefusesSubmission before.kept before.kept.own) of_node status
+    × EndsSo ⊥ (RefusesSubmission before.kept before.kept.own) status_of_node status
 
-abbrev pub Submits : HostState → (object : ℕ) → Op → (number status told : ℕ) → HostState → Type 0
-Submits before object op number status told after =
+abbrev pub SubmitsFor : HostState → (object : ℕ) → Op → (number status told : ℕ) → HostState → Type 0
+SubmitsFor before object op number status told after =
     ((status ≡ 0) × HasSubmitted before object op after told) ⊎ SubmitFails before number status told after
 
 -- an operation of one's own is made first
 abbrev pub SubmitsOwn : HostState → (object : ℕ) → (bytes : List ℕ) → (number status told : ℕ) → HostState → Type 0
 SubmitsOwn before object bytes number status told after =
-    Submits before object (own bytes) number status told after
-    ⊎ (IsAsBefore before after number told × Ends ⊥ (IsOwnRefusal bytes) of_own status)
+    SubmitsFor before object (own bytes) number status told after
+    ⊎ (IsAsBefore before after number told × EndsSo ⊥ (IsOwnRefusal bytes) status_of_own status)
 
 -- ## Proposals
 
 abbrev pub Proposes : HostState → (commit value status : ℕ) → HostState → Type 0
 Proposes before commit value status after =
     ((status ≡ 0) × TakesCall before before.links (Decide before.kept.own commit value) after)
-    ⊎ ((after ≡ before) × Ends ⊥ (RefusesProposal before.kept before.kept.own commit) of_node status)
+    ⊎ ((after ≡ before) × EndsSo ⊥ (RefusesProposal before.kept before.kept.own commit) status_of_node status)
 
 abbrev pub number_of_bool : Bool → ℕ
 number_of_bool true = 1
@@ -85,7 +86,8 @@ AddsObject before object (Some kind) status after =
     ((status ≡ 0) × (after ≡ with_objects before (record before.shelf {
       objects = before.shelf.objects ++ (object, kind) ∷ [];
     })))
-    ⊎ ((after ≡ before) × Ends ⊥ (IsAddRefusal (kind_at before.shelf.objects object) (start kind)) of_shelf status)
+    ⊎ ((after ≡ before) × EndsSo ⊥ (IsAddRefusal (kind_at before.shelf.objects object)
+    (start kind)) status_of_shelf status)
 
 -- ## Questions
 
@@ -99,7 +101,7 @@ IsAsked part before object query status told after =
     × (part answer ≡ Some told)))
     ⊎ (((status ≡ 4) × ((answer : Answer) × (answer_at (shelf_now before) object query ≡ Some answer)
     × (part answer ≡ None)))
-    ⊎ Ends ⊥ (IsAskRefusal (kind_at before.shelf.objects object)) of_shelf status))
+    ⊎ EndsSo ⊥ (IsAskRefusal (kind_at before.shelf.objects object)) status_of_shelf status))
 
 abbrev pub total_in : Answer → Option ℤ
 total_in (answer.Total sum) = Some sum
@@ -134,13 +136,16 @@ abbrev pub filled : (bytes buffer : List ℕ) → List ℕ
 filled bytes buffer = bytes ++ drop (length bytes) buffer
 
 -- what is handed over of what waits first
-abbrev pub IsHanded : HostState → Option Outgoing → (buffer : List ℕ) → (status to len : ℕ) → (given : List ℕ) → HostState
+abbrev pub IsHandedOver : HostState → Option Outgoing → (buffer : List ℕ) → (status to len : ℕ) → (given : List ℕ)
+    → HostState
     → Type 0
-IsHanded before None buffer status to len given after = (status ≡ 2) × (after ≡ before)
-IsHanded before (Some first) buffer status to len given after =
-    ((status ≡ 0) × (to ≡ receiver first) × (len ≡ length (outgoing_text first)) × (given ≡ filled (outgoing_text first) buffer)
+IsHandedOver before None buffer status to len given after = (status ≡ 2) × (after ≡ before)
+IsHandedOver before (Some first) buffer status to len given after =
+    ((status ≡ 0) × (to ≡ receiver first) × (len ≡ length (outgoing_text first))
+    × (given ≡ filled (outgoing_text first) buffer)
     × (after ≡ with_mail before (drop 1 before.mail)))
-    ⊎ (((status ≡ 3) × (len ≡ length (outgoing_text first)) × (length buffer < len) × (given ≡ buffer) × (after ≡ before))
+    ⊎ (((status ≡ 3) × (len ≡ length (outgoing_text first)) × (length buffer < len) × (given ≡ buffer)
+    × (after ≡ before))
     ⊎ ((status ≡ 1) × (given ≡ buffer) × (after ≡ before)))
 
 -- once the node has taken in what it sends itself
@@ -149,7 +154,7 @@ pub record HandsMail (before : HostState) (buffer : List ℕ) (status to len : �
   pub settled : HostState
   pub states : List HostState
   pub brought : AreBrought states before settled
-  pub handed : IsHanded settled (slice_get settled.mail 0) buffer status to len given after
+  pub handed : IsHandedOver settled (slice_get settled.mail 0) buffer status to len given after
 
 -- ## What is taken out
 
@@ -159,5 +164,6 @@ pub record Removes (before : HostState) (object element number status told : ℕ
   pub same : seen ≡ with_objects before seen.shelf
   pub objects : seen.shelf.objects ≡ before.shelf.objects
   pub done : ((tags : List UpdateId) × (tags_at (shelf_now before) object element ≡ Some tags)
-      × Submits seen object (Remove tags) number status told after)
-      ⊎ (IsAsBefore seen after number told × Ends ⊥ (IsUnseen (tags_at (shelf_now before) object element)) of_shelf status)
+      × SubmitsFor seen object (Remove tags) number status told after)
+      ⊎ (IsAsBefore seen after number told
+      × EndsSo ⊥ (IsUnseen (tags_at (shelf_now before) object element)) status_of_shelf status)

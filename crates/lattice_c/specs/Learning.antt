@@ -7,7 +7,7 @@ use Rattle.la_set.specs.declared.update.Op.TheVariants as op
 use Rattle.la_set.specs.declared.update.Update.{Update}
 use Rattle.la_own.specs.Own.{own_bytes_of}
 use Rattle.la_embed.specs.Hosts.{HostState, with_handed}
-use Rattle.la_embed.specs.Learnt.{IsNextLearnt, HandsOn}
+use Rattle.la_embed.specs.Learnt.{IsNextLearnt, HandsOnNext}
 use Rattle.lattice_c.specs.declared.learning.Learnt.{Learnt}
 use Rattle.lattice_c.specs.Calls.{filled}
 
@@ -31,28 +31,31 @@ value_told (op.Remove tags) = length tags
 value_told op.Mark = 0
 value_told (op.Vote value sole) = value
 
-abbrev pub learnt_of : Update → (kind value : ℕ) → Learnt
-learnt_of u kind value =
+abbrev pub learnt_told : Update → (kind value : ℕ) → Learnt
+learnt_told u kind value =
     record { value = value; number = u.id.number; object = u.object; replica = u.id.replica; kind = kind }
 
 -- an update, and where it is one of one's own its bytes in a buffer; or these found no room
-abbrev pub IsTold : Update → Option (List ℕ) → (buffer : List ℕ) → (fits : Bool) → Learnt → (len : ℕ) → (given : List ℕ) → Type 0
+abbrev pub IsTold : Update → Option (List ℕ) → (buffer : List ℕ) → (fits : Bool) → Learnt → (len : ℕ)
+    → (given : List ℕ) → Type 0
 IsTold u None buffer fits out len given =
-    (fits ≡ true) × (out ≡ learnt_of u (kind_told u.op) (value_told u.op)) × (len ≡ 0) × (given ≡ buffer)
+    (fits ≡ true) × (out ≡ learnt_told u (kind_told u.op) (value_told u.op)) × (len ≡ 0) × (given ≡ buffer)
 IsTold u (Some bytes) buffer fits out len given =
-    (len ≡ length bytes) × (((fits ≡ true) × (out ≡ learnt_of u 8 0) × (given ≡ filled bytes buffer))
+    (len ≡ length bytes) × (((fits ≡ true) × (out ≡ learnt_told u 8 0) × (given ≡ filled bytes buffer))
     ⊎ ((fits ≡ false) × (length buffer < length bytes) × (given ≡ buffer)))
 
 -- the update that comes next is told, and handed on where it fits; 2 says that there is none
-abbrev pub TellsNext : HostState → Option Update → (buffer : List ℕ) → (status : ℕ) → Learnt → (len : ℕ) → (given : List ℕ)
+abbrev pub TellsNext : HostState → Option Update → (buffer : List ℕ) → (status : ℕ) → Learnt → (len : ℕ)
+    → (given : List ℕ)
     → HostState → Type 0
 TellsNext before None buffer status out len given after = (status ≡ 2) × (given ≡ buffer) × (after ≡ before)
 TellsNext before (Some u) buffer status out len given after =
     ((status ≡ 0) × IsTold u (own_bytes_of u.op) buffer true out len given
-    × (after ≡ with_handed before after.handed) × HandsOn before.kept.view before.handed after.handed)
+    × (after ≡ with_handed before after.handed) × HandsOnNext before.kept.view before.handed after.handed)
     ⊎ ((status ≡ 3) × IsTold u (own_bytes_of u.op) buffer false out len given × (after ≡ before))
 
-abbrev pub TellsLearnt : HostState → (buffer : List ℕ) → (status : ℕ) → Learnt → (len : ℕ) → (given : List ℕ) → HostState
+abbrev pub TellsLearnt : HostState → (buffer : List ℕ) → (status : ℕ) → Learnt → (len : ℕ) → (given : List ℕ)
+    → HostState
     → Type 0
 TellsLearnt before buffer status out len given after =
     (next : Option Update) × IsNextLearnt before.handed before.kept.view next
@@ -61,4 +64,5 @@ TellsLearnt before buffer status out len given after =
 -- how many updates there are of each of eight replicas
 abbrev pub eight : Counts → List ℕ
 eight c =
-    count_in c 0 ∷ count_in c 1 ∷ count_in c 2 ∷ count_in c 3 ∷ count_in c 4 ∷ count_in c 5 ∷ count_in c 6 ∷ count_in c 7 ∷ []
+    count_in c 0 ∷ count_in c 1 ∷ count_in c 2 ∷ count_in c 3 ∷ count_in c 4 ∷ count_in c 5 ∷ count_in c 6
+    ∷ count_in c 7 ∷ []

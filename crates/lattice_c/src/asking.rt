@@ -4,7 +4,7 @@ ghost use Rattle.la_object.specs.declared.query.Query.TheVariants.{Total, AtLeas
 ghost use Rattle.lattice_c.specs.Calls.{IsAsked, total_in, reached_in, largest_in, has_in, size_in};
 
 use crate::handle::Handle;
-use crate::status::{FOREIGN, OK, SMALL, of_shelf};
+use crate::status::{FOREIGN, OK, SMALL, status_of_shelf};
 use la_object::{Answer, Query};
 
 /// A counter's total: its increments less its decrements. `NO_OBJECT` comes where there is no such object, `FOREIGN`
@@ -19,7 +19,7 @@ pub extern "C" fn lattice_total(handle: &mut Handle, object: u16, total: &mut i6
             OK
         }
         Ok(_) => FOREIGN,
-        Err(refused) => of_shelf(refused),
+        Err(refused) => status_of_shelf(refused),
     }
 }
 
@@ -39,7 +39,7 @@ pub extern "C" fn lattice_at_least(
             OK
         }
         Ok(_) => FOREIGN,
-        Err(refused) => of_shelf(refused),
+        Err(refused) => status_of_shelf(refused),
     }
 }
 
@@ -54,7 +54,7 @@ pub extern "C" fn lattice_largest(handle: &mut Handle, object: u16, largest: &mu
             OK
         }
         Ok(_) => FOREIGN,
-        Err(refused) => of_shelf(refused),
+        Err(refused) => status_of_shelf(refused),
     }
 }
 
@@ -69,7 +69,7 @@ pub extern "C" fn lattice_has(handle: &mut Handle, object: u16, element: u64, ha
             OK
         }
         Ok(_) => FOREIGN,
-        Err(refused) => of_shelf(refused),
+        Err(refused) => status_of_shelf(refused),
     }
 }
 
@@ -84,7 +84,7 @@ pub extern "C" fn lattice_size(handle: &mut Handle, object: u16, size: &mut u64)
             OK
         }
         Ok(_) => FOREIGN,
-        Err(refused) => of_shelf(refused),
+        Err(refused) => status_of_shelf(refused),
     }
 }
 
@@ -109,6 +109,6 @@ pub extern "C" fn lattice_items(
             OK
         }
         Ok(_) => FOREIGN,
-        Err(refused) => of_shelf(refused),
+        Err(refused) => status_of_shelf(refused),
     }
 }

@@ -4,7 +4,7 @@ ghost use Rattle.la_set.specs.Counts.{counts_of};
 ghost use Rattle.la_own.specs.Own.{own_bytes_of};
 ghost use Rattle.la_node.specs.Links.{known_of};
 ghost use Rattle.la_embed.specs.Hosts.{submitted_by};
-ghost use Rattle.lattice_c.specs.Learning.{kind_told, value_told, learnt_of, eight, IsTold, TellsLearnt};
+ghost use Rattle.lattice_c.specs.Learning.{kind_told, value_told, learnt_told, eight, IsTold, TellsLearnt};
 
 use crate::handle::Handle;
 use crate::status::{NONE, OK, SMALL};
@@ -44,7 +44,7 @@ fn kind_of(op: &Op) -> (u8, u64)
 }
 
 fn told(update: &Update, kind: u8, value: u64) -> Learnt
-    ensures { result ≡ learnt_of update.now kind value }
+    ensures { result ≡ learnt_told update.now kind value }
 {
     Learnt {
         value,

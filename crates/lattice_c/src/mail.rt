@@ -1,13 +1,13 @@
 // What a node sends and takes.
 ghost use Rattle.std.specs.Prelude.{◌≡◌, ◌≢◌, ◌⊎◌, List, Some, None, IfOk, IfSome, OnErr, option_map, slice_get};
-ghost use Rattle.la_embed.specs.Hosts.{HostState, IsSentAgain, with_mail};
+ghost use Rattle.la_embed.specs.Hosts.{HostState, IsPostedAgain, with_mail};
 ghost use Rattle.la_embed.specs.Outgoing.{receiver, outgoing_text};
-ghost use Rattle.la_embed.specs.Receiving.{TakesLine, IsReceiveRefusal};
+ghost use Rattle.la_embed.specs.Receiving.{TakesHostLine, IsLineRefusal};
 ghost use Rattle.lattice_c.specs.Calls.{AreBrought, HandsMail};
-ghost use Rattle.lattice_c.specs.Statuses.{Ends, of_host};
+ghost use Rattle.lattice_c.specs.Statuses.{EndsSo, status_of_host};
 
 use crate::handle::Handle;
-use crate::status::{MEMORY, NONE, OK, SMALL, of_host};
+use crate::status::{MEMORY, NONE, OK, SMALL, status_of_host};
 use la_embed::Embedded;
 use std::alloc::AllocError;
 
@@ -18,12 +18,12 @@ use std::alloc::AllocError;
 /// message is refused, and `MEMORY`.
 #[unsafe(no_mangle)]
 pub extern "C" fn lattice_receive(handle: &mut Handle, bytes: &[u8]) -> u8
-    ensures { Ends (TakesLine handle.old.host.host bytes.now handle.new.host.host)
-        (IsReceiveRefusal handle.old.host.host bytes.now) of_host result }
+    ensures { EndsSo (TakesHostLine handle.old.host.host bytes.now handle.new.host.host)
+        (IsLineRefusal handle.old.host.host bytes.now) status_of_host result }
 {
     match handle.inner().host.receive(bytes) {
         Ok(()) => OK,
-        Err(refused) => of_host(refused),
+        Err(refused) => status_of_host(refused),
     }
 }
 
@@ -31,7 +31,7 @@ pub extern "C" fn lattice_receive(handle: &mut Handle, bytes: &[u8]) -> u8
 /// calls it by a timer.
 #[unsafe(no_mangle)]
 pub extern "C" fn lattice_again(handle: &mut Handle) -> u8
-    ensures again { ((result ≡ 0) × IsSentAgain handle.old.host.host handle.new.host.host.mail)
+    ensures again { ((result ≡ 0) × IsPostedAgain handle.old.host.host handle.new.host.host.mail)
         ⊎ ((result ≡ 1) × (handle.new.host.host.mail ≡ handle.old.host.host.mail)) }
     ensures same { handle.new.host.host ≡ with_mail handle.old.host.host handle.new.host.host.mail }
 {

@@ -3,7 +3,7 @@ ghost use Rattle.std.specs.Prelude.{◌≡◌};
 ghost use Rattle.lattice_c.specs.Calls.{kind_numbered, AddsObject};
 
 use crate::handle::{Handle, Place};
-use crate::status::{BAD_GROUP, BAD_KIND, MEMORY, OK, of_shelf, of_world};
+use crate::status::{BAD_GROUP, BAD_KIND, MEMORY, OK, status_of_shelf, status_of_world};
 use la_embed::{AnyObject, Embedded};
 use la_node::Config;
 use la_object::Kind;
@@ -56,7 +56,7 @@ pub extern "C" fn lattice_node_new(
     };
     let node = match Embedded::new(alloc, config, own) {
         Ok(node) => node,
-        Err(refused) => return of_world(refused),
+        Err(refused) => return status_of_world(refused),
     };
     match Box::new(alloc, node) {
         Ok(node) => {
@@ -99,6 +99,6 @@ pub extern "C" fn lattice_add(handle: &mut Handle, object: u16, kind: u8) -> u8
     let object_made = AnyObject::new(inner.alloc, kind);
     match inner.host.add(object, object_made) {
         Ok(()) => OK,
-        Err(refused) => of_shelf(refused),
+        Err(refused) => status_of_shelf(refused),
     }
 }

@@ -1,6 +1,6 @@
 // Statuses: one number for each way in which a call ends. `bindings/calls` has their names for other languages.
 ghost use Rattle.std.specs.Prelude.{◌≡◌};
-ghost use Rattle.lattice_c.specs.Statuses.{of_line, of_replica, of_world, of_node, of_host, of_shelf, of_own};
+ghost use Rattle.lattice_c.specs.Statuses.{status_of_line, status_of_replica, status_of_world, status_of_node, status_of_host, status_of_shelf, status_of_own};
 
 use la_durable::NodeError;
 use la_embed::HostError;
@@ -62,8 +62,8 @@ pub const BAD_NUMBER: u8 = 24;
 
 pub const BAD_KIND: u8 = 25;
 
-pub fn of_line(fault: LineFault) -> u8
-    ensures { result ≡ of_line fault }
+pub fn status_of_line(fault: LineFault) -> u8
+    ensures { result ≡ status_of_line fault }
 {
     match fault {
         LineFault::TooLong => TOO_LONG,
@@ -72,8 +72,8 @@ pub fn of_line(fault: LineFault) -> u8
     }
 }
 
-pub fn of_replica(refused: ReplicaError) -> u8
-    ensures { result ≡ of_replica refused }
+pub fn status_of_replica(refused: ReplicaError) -> u8
+    ensures { result ≡ status_of_replica refused }
 {
     match refused {
         ReplicaError::NoSuchReplica => NO_REPLICA,
@@ -87,8 +87,8 @@ pub fn of_replica(refused: ReplicaError) -> u8
     }
 }
 
-pub fn of_world(refused: WorldError) -> u8
-    ensures { result ≡ of_world refused }
+pub fn status_of_world(refused: WorldError) -> u8
+    ensures { result ≡ status_of_world refused }
 {
     match refused {
         WorldError::BadConfig => BAD_GROUP,
@@ -103,31 +103,31 @@ pub fn of_world(refused: WorldError) -> u8
     }
 }
 
-pub fn of_node(refused: NodeError) -> u8
-    ensures { result ≡ of_node refused }
+pub fn status_of_node(refused: NodeError) -> u8
+    ensures { result ≡ status_of_node refused }
 {
     match refused {
         NodeError::Elsewhere => ELSEWHERE,
         NodeError::Unkept => NO_MESSAGE,
-        NodeError::Replica(refused) => of_replica(refused),
-        NodeError::Proposal(refused) => of_world(refused),
+        NodeError::Replica(refused) => status_of_replica(refused),
+        NodeError::Proposal(refused) => status_of_world(refused),
         NodeError::Memory => MEMORY,
     }
 }
 
-pub fn of_host(refused: HostError) -> u8
-    ensures { result ≡ of_host refused }
+pub fn status_of_host(refused: HostError) -> u8
+    ensures { result ≡ status_of_host refused }
 {
     match refused {
-        HostError::Line(fault) => of_line(fault),
+        HostError::Line(fault) => status_of_line(fault),
         HostError::NoMessage => NO_MESSAGE,
-        HostError::Node(refused) => of_node(refused),
+        HostError::Node(refused) => status_of_node(refused),
         HostError::Memory => MEMORY,
     }
 }
 
-pub fn of_shelf(refused: ShelfError) -> u8
-    ensures { result ≡ of_shelf refused }
+pub fn status_of_shelf(refused: ShelfError) -> u8
+    ensures { result ≡ status_of_shelf refused }
 {
     match refused {
         ShelfError::Taken => TAKEN,
@@ -138,8 +138,8 @@ pub fn of_shelf(refused: ShelfError) -> u8
     }
 }
 
-pub fn of_own(refused: OwnError) -> u8
-    ensures { result ≡ of_own refused }
+pub fn status_of_own(refused: OwnError) -> u8
+    ensures { result ≡ status_of_own refused }
 {
     match refused {
         OwnError::TooLong => TOO_LARGE,

@@ -4,55 +4,55 @@ ghost use Rattle.la_object.specs.Shelves.{tags_at};
 ghost use Rattle.la_embed.specs.Hosts.{shelf_now, with_objects, IsUnseen};
 ghost use Rattle.la_set.specs.declared.update.Op.TheVariants.{Inc, Dec, Raise, Put, Mark};
 ghost use Rattle.la_own.specs.Own.{own};
-ghost use Rattle.lattice_c.specs.Calls.{Submits, SubmitsOwn, Removes, Proposes, TellsOutcome};
+ghost use Rattle.lattice_c.specs.Calls.{SubmitsFor, SubmitsOwn, Removes, Proposes, TellsOutcome};
 
 use crate::handle::Handle;
-use crate::status::{NONE, OK, of_node, of_own, of_shelf};
+use crate::status::{NONE, OK, status_of_node, status_of_own, status_of_shelf};
 use la_object::ShelfError;
 use la_own::own_op;
 use la_set::{Op, Tags};
 
-// Submits an operation.
+// SubmitsFor an operation.
 fn submit(handle: &mut Handle, object: u16, op: Op, number: &mut u32) -> u8
-    ensures { Submits handle.old.host.host object op number.old result number.new handle.new.host.host }
+    ensures { SubmitsFor handle.old.host.host object op number.old result number.new handle.new.host.host }
 {
     match handle.inner().host.submit(object, op) {
         Ok(update) => {
             *number = update;
             OK
         }
-        Err(refused) => of_node(refused),
+        Err(refused) => status_of_node(refused),
     }
 }
 
-/// Submits an addition to a counter, and answers the update's number. What is to be sent of it waits then.
+/// SubmitsFor an addition to a counter, and answers the update's number. What is to be sent of it waits then.
 ///
 /// `FULL` comes where the node has submitted its cap, and else `MEMORY` or `BALLOTS_SPENT`; so it is of each call that
 /// submits.
 #[unsafe(no_mangle)]
 pub extern "C" fn lattice_inc(handle: &mut Handle, object: u16, by: u32, number: &mut u32) -> u8
-    ensures { Submits handle.old.host.host object (Inc by) number.old result number.new handle.new.host.host }
+    ensures { SubmitsFor handle.old.host.host object (Inc by) number.old result number.new handle.new.host.host }
 {
     submit(handle, object, Op::Inc(by), number)
 }
 
-/// Submits a subtraction from a counter.
+/// SubmitsFor a subtraction from a counter.
 #[unsafe(no_mangle)]
 pub extern "C" fn lattice_dec(handle: &mut Handle, object: u16, by: u32, number: &mut u32) -> u8
-    ensures { Submits handle.old.host.host object (Dec by) number.old result number.new handle.new.host.host }
+    ensures { SubmitsFor handle.old.host.host object (Dec by) number.old result number.new handle.new.host.host }
 {
     submit(handle, object, Op::Dec(by), number)
 }
 
-/// Submits that a max register is at least this value.
+/// SubmitsFor that a max register is at least this value.
 #[unsafe(no_mangle)]
 pub extern "C" fn lattice_raise(handle: &mut Handle, object: u16, to: u64, number: &mut u32) -> u8
-    ensures { Submits handle.old.host.host object (Raise to) number.old result number.new handle.new.host.host }
+    ensures { SubmitsFor handle.old.host.host object (Raise to) number.old result number.new handle.new.host.host }
 {
     submit(handle, object, Op::Raise(to), number)
 }
 
-/// Submits that an element is put into an observed-remove set.
+/// SubmitsFor that an element is put into an observed-remove set.
 #[unsafe(no_mangle)]
 pub extern "C" fn lattice_put(
     handle: &mut Handle,
@@ -60,20 +60,20 @@ pub extern "C" fn lattice_put(
     element: u64,
     number: &mut u32,
 ) -> u8
-    ensures { Submits handle.old.host.host object (Put element) number.old result number.new handle.new.host.host }
+    ensures { SubmitsFor handle.old.host.host object (Put element) number.old result number.new handle.new.host.host }
 {
     submit(handle, object, Op::Put(element), number)
 }
 
-/// Submits a mark, which changes no object.
+/// SubmitsFor a mark, which changes no object.
 #[unsafe(no_mangle)]
 pub extern "C" fn lattice_mark(handle: &mut Handle, object: u16, number: &mut u32) -> u8
-    ensures { Submits handle.old.host.host object Mark number.old result number.new handle.new.host.host }
+    ensures { SubmitsFor handle.old.host.host object Mark number.old result number.new handle.new.host.host }
 {
     submit(handle, object, Op::Mark, number)
 }
 
-/// Submits an operation of one's own: up to 248 bytes, which no object here takes. `TOO_LARGE` comes exactly above that.
+/// SubmitsFor an operation of one's own: up to 248 bytes, which no object here takes. `TOO_LARGE` comes exactly above that.
 #[unsafe(no_mangle)]
 pub extern "C" fn lattice_own(
     handle: &mut Handle,
@@ -86,7 +86,7 @@ pub extern "C" fn lattice_own(
     let alloc = handle.inner().alloc;
     match own_op(alloc, bytes) {
         Ok(op) => submit(handle, object, op, number),
-        Err(refused) => of_own(refused),
+        Err(refused) => status_of_own(refused),
     }
 }
 
@@ -100,7 +100,7 @@ fn observed(handle: &mut Handle, object: u16, element: u64) -> Result<Tags, Shel
     handle.inner().host.observed(object, element)
 }
 
-/// Submits that an element is taken out of an observed-remove set, as far as the view has it: what was put in at the
+/// SubmitsFor that an element is taken out of an observed-remove set, as far as the view has it: what was put in at the
 /// same time elsewhere stays.
 ///
 /// `NO_OBJECT` comes where there is no such object, `TOO_MANY_TAGS` where over 64 puts of the element are seen; else it
@@ -116,7 +116,7 @@ pub extern "C" fn lattice_remove(
 {
     match observed(handle, object, element) {
         Ok(tags) => submit(handle, object, Op::Remove(tags), number),
-        Err(refused) => of_shelf(refused),
+        Err(refused) => status_of_shelf(refused),
     }
 }
 
@@ -130,7 +130,7 @@ pub extern "C" fn lattice_propose(handle: &mut Handle, commit: u8, value: u64) -
 {
     match handle.inner().host.propose(commit, value) {
         Ok(()) => OK,
-        Err(refused) => of_node(refused),
+        Err(refused) => status_of_node(refused),
     }
 }
 

@@ -6,8 +6,9 @@ use la_own::OwnError;
 use la_set::{Counts, Op, Update, UpdateId};
 use la_shelf::{Absorbs, Refusal};
 use la_types::{
-    Bytes, CounterMap, CounterOp, FlagOp, KeyedWrites, MultiRegister, Register, Write, WriteMap,
-    add_op, keyed_op, multi_op, reset_op, write_op,
+    Bytes, CounterMap, CounterOp, Elements, FlagOp, GrowSet, Keyed, KeyedWrites, MultiRegister,
+    Register, SetAnswer, SetQuery, TwoPhaseSet, UnderError, Write, WriteMap, add_op,
+    insert_element_op, keyed_op, multi_op, op_under, remove_element_op, reset_op, write_op,
 };
 use std::alloc::Global;
 
@@ -257,6 +258,137 @@ fn absorb_of(map: &mut CounterMap, id: UpdateId, op: Op) -> Option<()> {
     map.absorb(&Update { id, object: 1, op }).ok()
 }
 
+fn inserting(alloc: Global) -> Option<Op> {
+    made(insert_element_op(alloc, VALUE))
+}
+
+fn insert_element(elements: &mut Elements, alloc: Global) -> Came {
+    match elements.insert(alloc, VALUE) {
+        Ok(()) => Some(elements.has(VALUE)),
+        Err(_) => refused(elements.is_empty()),
+    }
+}
+
+fn all_elements(elements: &Elements, alloc: Global) -> Came {
+    match elements.all(alloc) {
+        Ok(all) => match all.all() {
+            [element] => Some(is_value(element)),
+            _ => Some(false),
+        },
+        Err(_) => refused(elements.has(VALUE)),
+    }
+}
+
+fn copy_elements(elements: &Elements, alloc: Global) -> Came {
+    match elements.copy(alloc) {
+        Ok(copy) => Some(copy.has(VALUE) && copy.len() == 1),
+        Err(_) => refused(elements.has(VALUE)),
+    }
+}
+
+fn elements(alloc: Global) -> Came {
+    let mut elements = Elements::new(alloc);
+    Some(
+        again!(alloc, insert_element(&mut elements, alloc))?
+            && again!(alloc, all_elements(&elements, alloc))?
+            && again!(alloc, copy_elements(&elements, alloc))?,
+    )
+}
+
+fn ask_items(set: &GrowSet) -> Came {
+    match set.ask(&SetQuery::Items) {
+        Ok(SetAnswer::Items(all)) => match all.all() {
+            [element] => Some(is_value(element)),
+            _ => Some(false),
+        },
+        Ok(_) => Some(false),
+        Err(_) => refused(!set.fresh()),
+    }
+}
+
+fn grown_elements(set: &GrowSet) -> Came {
+    match set.state() {
+        Ok(elements) => Some(elements.has(VALUE)),
+        Err(_) => refused(!set.fresh()),
+    }
+}
+
+fn a_grow_set(alloc: Global) -> Came {
+    let op = inserting(alloc)?;
+    let mut set = GrowSet::new(alloc);
+    Some(
+        absorb(&mut set, op)?
+            && again!(alloc, ask_items(&set))?
+            && again!(alloc, grown_elements(&set))?,
+    )
+}
+
+fn has_none(set: &TwoPhaseSet) -> Came {
+    match set.ask(&SetQuery::Items) {
+        Ok(SetAnswer::Items(all)) => Some(all.len() == 0),
+        Ok(_) => Some(false),
+        Err(_) => refused(!set.fresh()),
+    }
+}
+
+fn two_phase_state(set: &TwoPhaseSet) -> Came {
+    match set.state() {
+        Ok(state) => Some(state.present.is_empty() && state.removed.has(VALUE)),
+        Err(_) => refused(!set.fresh()),
+    }
+}
+
+// What was removed first stays out when it is inserted.
+fn a_two_phase_set(alloc: Global) -> Came {
+    let removal = made(remove_element_op(alloc, VALUE))?;
+    let insertion = inserting(alloc)?;
+    let mut set = TwoPhaseSet::new(alloc);
+    Some(
+        absorb(&mut set, removal)?
+            && absorb(&mut set, insertion)?
+            && again!(alloc, has_none(&set))?
+            && again!(alloc, two_phase_state(&set))?,
+    )
+}
+
+fn under(alloc: Global, op: &Op) -> Came {
+    match op_under(alloc, KEY, op) {
+        Ok(_) => Some(true),
+        Err(it) => refused(it == UnderError::Memory),
+    }
+}
+
+fn ask_under(map: &Keyed<Register>, query: &(Bytes, ())) -> Came {
+    match map.ask(query) {
+        Ok(Some(value)) => Some(is_value(&value)),
+        Ok(None) => Some(false),
+        Err(_) => refused(!map.fresh()),
+    }
+}
+
+fn states_under(map: &Keyed<Register>) -> Came {
+    match map.state() {
+        Ok(states) => match states.get(KEY) {
+            Some(Some(write)) => Some(is_value(&write.value)),
+            _ => Some(false),
+        },
+        Err(_) => refused(!map.fresh()),
+    }
+}
+
+fn a_map_of_registers(alloc: Global) -> Came {
+    let write = made(write_op(alloc, 4, VALUE))?;
+    let op = op_under(alloc, KEY, &write).ok()?;
+    let query = (Bytes::of(alloc, KEY).ok()?, ());
+    let mut map: Keyed<Register> = Keyed::new(alloc);
+    Some(
+        again!(alloc, under(alloc, &write))?
+            && absorb(&mut map, op)?
+            && again!(alloc, ask_under(&map, &query))?
+            && again!(alloc, states_under(&map))?,
+    )
+}
+
 fn scenes(alloc: Global) -> Came {
     Some(
         again!(alloc, disable(alloc))?
@@ -266,7 +398,11 @@ fn scenes(alloc: Global) -> Came {
             && again!(alloc, a_multi_register(alloc))?
             && again!(alloc, put(alloc))?
             && again!(alloc, take_out(alloc))?
-            && again!(alloc, a_counter_map(alloc))?,
+            && again!(alloc, a_counter_map(alloc))?
+            && again!(alloc, elements(alloc))?
+            && again!(alloc, a_grow_set(alloc))?
+            && again!(alloc, a_two_phase_set(alloc))?
+            && again!(alloc, a_map_of_registers(alloc))?,
     )
 }
 

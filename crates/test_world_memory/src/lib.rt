@@ -5,6 +5,8 @@
 #[cfg(test)]
 mod holds;
 #[cfg(test)]
+mod hosts;
+#[cfg(test)]
 mod lines;
 #[cfg(test)]
 mod machines;

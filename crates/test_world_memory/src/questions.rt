@@ -5,9 +5,9 @@ use la_own::own_op;
 use la_replica::Progress;
 use la_set::{Counts, Op, Tags, Update, UpdateId};
 use la_wire::{
-    Kinds, LineFault, NodeStatus, Question, Take, Tally, Wanted, Wrong, awaited_in, put_status,
-    put_tags_answer, put_update_answer, put_updates_answer, put_waiting, question_in, take_in,
-    wrong_part,
+    Kinds, LineError, LineFault, NodeStatus, Question, Take, Tally, Wanted, Wrong, awaited_in,
+    put_status, put_tags_answer, put_update_answer, put_updates_answer, put_waiting, question_in,
+    take_in, update_in_note, wrong_part,
 };
 use std::alloc::{AllocError, Global};
 use test_memory::{Came, again, refused};
@@ -153,6 +153,40 @@ fn waits_all(alloc: Global) -> Came {
     for (line, replica, number, plain) in WAITING {
         let after = UpdateId { replica, number };
         if !again!(alloc, waits(alloc, line, after, plain))? {
+            return Some(false);
+        }
+    }
+    Some(true)
+}
+
+// Notes, and how much an update adds that they tell; 0 where they tell none.
+const TOLD: [(&str, u32); 8] = [
+    ("# r7 update 0.12 9 inc 5 @u", 5),
+    ("# r255 update 0.12 9 inc 4294967295", 4294967295),
+    ("# r256 update 0.12 9 inc 5", 0),
+    ("# 7 update 0.12 9 inc 5", 0),
+    ("# r7 update 0.12 9 inc 5 @", 0),
+    ("# r7 updates 0.12 9 inc 5", 0),
+    ("# r7 update 0.0 9 inc 5", 0),
+    ("# r7 update", 0),
+];
+
+fn tells(alloc: Global, line: &str, amount: u32) -> Came {
+    let want = Update {
+        id: IDS[0],
+        object: 9,
+        op: Op::Inc(amount),
+    };
+    match update_in_note(alloc, line.as_bytes()) {
+        Ok(it) => Some(it.same(&want)),
+        Err(LineError::Memory) => None,
+        Err(LineError::Fault(_)) => Some(amount == 0),
+    }
+}
+
+fn tells_all(alloc: Global) -> Came {
+    for (line, amount) in TOLD {
+        if !again!(alloc, tells(alloc, line, amount))? {
             return Some(false);
         }
     }
@@ -367,7 +401,13 @@ fn puts_alone(alloc: Global) -> Came {
 }
 
 fn reads(alloc: Global) -> Came {
-    Some(asks_all(alloc)? && takes_all(alloc)? && waits_all(alloc)? && all_wrong(alloc)?)
+    Some(
+        asks_all(alloc)?
+            && takes_all(alloc)?
+            && waits_all(alloc)?
+            && tells_all(alloc)?
+            && all_wrong(alloc)?,
+    )
 }
 
 fn puts(alloc: Global) -> Came {

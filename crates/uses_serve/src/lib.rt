@@ -3,5 +3,6 @@
 #![tactic(auto)]
 
 pub mod calls;
+pub mod hosts;
 pub mod servers;
 pub mod streams;

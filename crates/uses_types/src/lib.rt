@@ -5,7 +5,10 @@
 
 pub mod carts;
 pub mod counters;
+pub mod elements;
 pub mod flags;
+pub mod keyed;
+pub mod lists;
 pub mod maps;
 pub mod multis;
 pub mod notes;

@@ -14,5 +14,5 @@ returns-in-Err c = record {
   seen = c.observed.new.handle.host.host;
   same = c.observed.ensures.same;
   objects = c.observed.ensures.objects;
-  done = inr ((refl, refl), inr (c.in-Err.refused, c.in-Err.ensures.error, c.of_shelf.ensures));
+  done = inr ((refl, refl), inr (c.in-Err.refused, c.in-Err.ensures.error, c.status_of_shelf.ensures));
 }

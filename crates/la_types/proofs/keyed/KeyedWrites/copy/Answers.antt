@@ -2,7 +2,7 @@ use Rattle.std.proofs.Common.{rules}
 use Rattle.std.specs.Ordering.{nat_cmp}
 use Rattle.std.specs.Cmp.Lexicographic.{slice_cmp}
 use Rattle.la_types.specs.KeyOrder.{key_total, key_tied}
-use Rattle.la_types.proofs.FiniteMaps.{sorted-keys, all_put-from_entries}
+use Rattle.la_types.proofs.lemmas.FiniteMaps.{sorted-keys, all_put-from_entries}
 use Rattle.la_types.proofs.keyed.KeyedWrites.copy.Goals as goal
 
 pub returns : goal.returns

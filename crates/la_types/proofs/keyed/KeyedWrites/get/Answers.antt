@@ -1,7 +1,7 @@
 use Rattle.std.proofs.Common.{◌∙◌, sym, ap}
 use Rattle.std.specs.FinMap as map
 use Rattle.la_types.specs.KeyOrder.{key_total}
-use Rattle.la_types.proofs.FiniteMaps.{get-lookup}
+use Rattle.la_types.proofs.lemmas.FiniteMaps.{get-lookup}
 use Rattle.la_types.proofs.keyed.KeyedWrites.get.Goals as goal
 
 pub returns : goal.returns

@@ -1,7 +1,7 @@
 use Rattle.std.proofs.Common.{◌∙◌, ap}
 use Rattle.std.specs.FinMap as map
 use Rattle.la_types.specs.KeyOrder.{key_total, key_tied}
-use Rattle.la_types.proofs.FiniteMaps.{one_put}
+use Rattle.la_types.proofs.lemmas.FiniteMaps.{one_put}
 use Rattle.la_types.proofs.keyed.KeyedWrites.insert.Goals as goal
 
 pub returns-clause-ok : goal.returns-clause-ok

@@ -1,6 +1,6 @@
 use Rattle.std.proofs.Common.{◌∙◌, sym}
 use Rattle.la_types.specs.KeyOrder.{key_total}
-use Rattle.la_types.proofs.FiniteMaps.{no_entries, empty_entries}
+use Rattle.la_types.proofs.lemmas.FiniteMaps.{no_entries, empty_entries}
 use Rattle.la_types.proofs.keyed.KeyedWrites.is_empty.Goals as goal
 
 pub returns : goal.returns

@@ -85,14 +85,6 @@ module _ {K X : Type 0} {R : K → K → Ordering} (o : IsTotalOrder R) where
         get-lookup fs q ∙ h q ∙ ap (λ b. cond b (Some x) (lookup (is_at (R q)) es)) ((eq_by_cmp_equiv o).symm k q)
         ∙ sym (map.get-insert o (map.from_entries es) k x q ∙ ap (cond (eq_by_cmp R q k) (Some x)) (get-lookup es q)))
 
-    -- what is there, put there again
-    pub put_again : (m : map.FinMap R X) (k : K) (x : X) → map.get m k ≡ Some x → map.insert m k x ≡ m
-    put_again m k x there = map.same_map o tied _ _ (λ q. map.get-insert o m k x q ∙ by q (eq_by_cmp R q k) refl)
-      where
-        by : (q : K) (b : Bool) → eq_by_cmp R q k ≡ b → cond b (Some x) (map.get m q) ≡ map.get m q
-        by q true is = sym (ap (map.get m) (tied q k ((Equal-is (R q k)).0 is)) ∙ there)
-        by q false is = refl
-
     -- one entry after another
     abbrev pub all_put : map.FinMap R X → List (K × X) → map.FinMap R X
     all_put m [] = m
@@ -118,3 +110,10 @@ module _ {K X : Type 0} {R : K → K → Ordering} (o : IsTotalOrder R) where
     all_put-from_entries es h = map.same_map o tied _ _ (λ q.
         get-all_put map.empty es q h ∙ ap (or_else (find R q es)) (map.get-empty R q) ∙ or_none _
         ∙ sym (map.get-from_entries o es q))
+
+    -- a map of entries in strict order has them in that order
+    pub entries-from_entries : (es : List (K × X)) → T (is_sorted R es) → map.entries (map.from_entries {R = R} es) ≡ es
+    entries-from_entries es h =
+        ap map.entries (map.same_map o tied (map.from_entries es) (map.from_sorted es) (λ q.
+        map.get-from_entries o es q ∙ sym (map.get-from_sorted R es q h)))
+        ∙ map.entries-from_sorted R es h

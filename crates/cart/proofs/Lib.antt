@@ -1,0 +1,4 @@
+pub mod Told
+pub mod Played
+pub mod OtherWords
+pub mod TakenOut

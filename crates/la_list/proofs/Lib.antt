@@ -1,0 +1,4 @@
+mod Links
+mod EditBytes
+mod IdSets
+mod InsertCopies

@@ -1,0 +1,11 @@
+use Rattle.std.proofs.Common.{is_some, ap, ◌∙◌}
+use Rattle.std.specs.FinMap as fin
+use Rattle.std.specs.Vec.{vec_items}
+use Rattle.la_types.proofs.KeyEntries.{found_is}
+use Rattle.la_types.proofs.by_key.ByKey.has.Goals as goal
+
+pub returns : goal.returns
+returns g c =
+    c.contains_key.ensures
+    ∙ ap is_some (found_is vec_items c.self.inside.of.entries c.args.key.now)
+    ∙ ap (λ m. fin.contains_key m c.args.key.now) c.self.view_is
