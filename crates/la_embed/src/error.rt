@@ -46,3 +46,29 @@ impl From<LineError> for HostError {
         }
     }
 }
+
+/// Why a submission under a number was not done. The host is then as before.
+#[derive(Clone, Copy, Debug, PartialEq, Eq, Error)]
+pub enum NumberError {
+    /// Another submission has this number.
+    #[error("another submission has this number")]
+    Stale,
+
+    /// This number is not the next, and no submission has it.
+    #[error("this number is not the next")]
+    Gap,
+
+    /// The node refused it.
+    #[error("{0}")]
+    Node(NodeError),
+}
+
+impl From<NodeError> for NumberError {
+    ghost use Rattle.la_embed.specs.declared.error.NumberError.TheVariants.{Node};
+
+    ghost from_gives = { λ refused e. e ≡ Node refused };
+
+    fn from(refused: NodeError) -> NumberError {
+        NumberError::Node(refused)
+    }
+}

@@ -1,5 +1,5 @@
 ghost use Rattle.std.specs.Prelude.{◌≡◌, ◌≤◌, ◌++◌, ◌∷◌, [], Ok, Some, None, IsOk, IfOk, IfErr, OnOk, OnErr, MatchOption};
-ghost use Rattle.std.specs.Prelude.{drop, filter, length, slice_get};
+ghost use Rattle.std.specs.Prelude.{◌↔◌, IsTrue, option_map, drop, filter, length, slice_get};
 ghost use Rattle.std.specs.Option.{option_copied};
 ghost use Rattle.la_set.specs.Inclusion.{IsSubset};
 ghost use Rattle.la_object.specs.Objects.{kind_of};
@@ -14,6 +14,11 @@ ghost use Rattle.la_wire.specs.Calls.{called, Submit, Decide};
 ghost use Rattle.la_node.specs.Links.{standing_of};
 ghost use Rattle.la_durable.specs.Nodes.{empty_shelf, kept_by};
 ghost use Rattle.la_durable.specs.Errors.{IsActRefusal, RefusesSubmission, RefusesProposal};
+ghost use Rattle.la_set.specs.ObjectOps.{object_op_of, update_of};
+ghost use Rattle.la_proposer.specs.ProposerState.{op_on};
+ghost use Rattle.la_set.specs.Histories.{object_op_number};
+ghost use Rattle.la_proposer.specs.Inputs.{all_submitted};
+ghost use Rattle.la_embed.specs.Numbers.{SubmitsUnder, IsNumberRefusal};
 ghost use Rattle.la_embed.specs.Learnt.{IsNextLearnt, HandsOnNext};
 ghost use Rattle.la_embed.specs.Hosts.{host_of, shelf_now, submitted_by, with_handed, with_mail, with_objects};
 ghost use Rattle.la_embed.specs.Hosts.{TakesCall, IsPosted, IsToldBack, IsPostedAgain, IsUnseen, with_letters};
@@ -21,13 +26,14 @@ ghost use Rattle.la_embed.specs.Receiving.{TakesHostLine, TakesLetter, RefusesHe
 ghost use Rattle.la_embed.specs.Receiving.{is_for_host, brings_nothing, has_told, is_counted};
 
 use crate::learnt::{handed_with, next_id};
-use crate::{HostError, Outgoing};
+use crate::{HostError, NumberError, Outgoing};
 use la_commit::Outcome;
 use la_durable::{NodeError, NodeMachine};
 use la_node::{Config, Done, Letter, Links, Node, Received, WorldError};
 use la_object::{Answer, Counter, Query, Replicated, Shelf, ShelfError};
+use la_proposer::{Proposer, laws};
 use la_replica::{Content, Mail, Progress};
-use la_set::{Counts, Delta, Op, Tags, Update, UpdateSet};
+use la_set::{Counts, Delta, Op, Tags, Update, UpdateId, UpdateSet};
 use la_wire::{Call, read_bounded};
 use smallvec::SmallVec;
 use std::alloc::{AllocError, Global};
@@ -183,6 +189,31 @@ impl<B: Replicated> Host<B> {
         };
         self.act(&call, self.links)?;
         Ok(self.submitted())
+    }
+
+    /// Submits an operation as the update with this number, so that it counts once, however often it is asked for:
+    /// under the next number it is submitted as by [`Host::submit`], and under one that has this very operation nothing
+    /// changes. The cost is that of a submission, and logarithmic in how many were submitted.
+    ///
+    /// In this order: `Stale` where another submission has this number; `Gap` where it is neither the next nor
+    /// submitted; `Node` as [`Host::submit`] is refused.
+    pub fn submit_at(&mut self, number: u32, object: u16, op: Op) -> Result<(), NumberError>
+        ensures ok { OnOk result (SubmitsUnder self.old number (op_on object op) self.new) }
+        ensures error { IfErr result (IsNumberRefusal self.old number (op_on object op)) }
+        ensures err { OnErr result (self.new ≡ self.old) }
+    {
+        if number.checked_sub(1) == Some(self.submitted()) {
+            let _number = self.submit(object, op)?;
+            return Ok(());
+        }
+        let Some(first) = self.machine.node.replica().instances().first() else {
+            return Err(NumberError::Gap);
+        };
+        match submitted_under(&first.proposer, number) {
+            Some(update) if does(update, object, &op) => Ok(()),
+            Some(_) => Err(NumberError::Stale),
+            None => Err(NumberError::Gap),
+        }
     }
 
     /// Proposes a value to an adopt-commit object. What is to be sent waits, as that of a submission does.
@@ -355,6 +386,26 @@ impl<B: Replicated> Host<B> {
             .ask_by(self.machine.node.view(), object, &Query::Size)?;
         self.shelf.observed(object, element)
     }
+}
+
+// What a proposer has submitted under a number.
+fn submitted_under(proposer: &Proposer, number: u32) -> Option<&Update>
+    ensures { option_copied result ≡ option_map (update_of proposer.now.own number)
+        (object_op_number (all_submitted proposer.now) number) }
+{
+    // a hint to the prover: the proposer is one of eight
+    laws::proposers_may_be_resumed();
+    proposer.submissions().get(UpdateId {
+        replica: proposer.own(),
+        number,
+    })
+}
+
+// Whether an update does this to this object.
+fn does(update: &Update, object: u16, op: &Op) -> bool
+    ensures { IsTrue result ↔ (object_op_of update.now ≡ op_on object op.now) }
+{
+    update.object == object && update.op.same(op)
 }
 
 // Puts letters behind what waits. After a refusal nothing has changed.

@@ -15,7 +15,7 @@ mod object;
 mod outgoing;
 
 pub use embedded::Embedded;
-pub use error::HostError;
+pub use error::{HostError, NumberError};
 pub use host::Host;
 pub use object::AnyObject;
 pub use outgoing::Outgoing;

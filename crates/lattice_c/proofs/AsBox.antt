@@ -11,7 +11,11 @@ use Rattle.la_embed.proofs.embedded.Embedded.TheLaws as host
 use Rattle.lattice_c.specs.contracts.handle.Handle as Handle
 
 abbrev pub E : Bx
-E = record { row = Host.the_row; laws = host.the_row_laws; al = record { row = Heap.the_row; laws = heap.the_row_laws; g = ghosts; d = dict; drops = impl [] tnil dnil } }
+E = record {
+  row = Host.the_row;
+  laws = host.the_row_laws;
+  al = record { row = Heap.the_row; laws = heap.the_row_laws; g = ghosts; d = dict; drops = impl [] tnil dnil };
+}
 
 abbrev pub FromHandle : Slot 0
 FromHandle = plain (λ _. Handle.the_row)

@@ -3,3 +3,4 @@ pub mod Sealed
 pub mod Statuses
 pub mod Calls
 pub mod Learning
+pub mod Numbered

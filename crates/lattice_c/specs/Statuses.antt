@@ -10,6 +10,8 @@ use Rattle.la_durable.specs.declared.error.NodeError.{NodeError}
 use Rattle.la_durable.specs.declared.error.NodeError.TheVariants as node
 use Rattle.la_embed.specs.declared.error.HostError.{HostError}
 use Rattle.la_embed.specs.declared.error.HostError.TheVariants as host
+use Rattle.la_embed.specs.declared.error.NumberError.{NumberError}
+use Rattle.la_embed.specs.declared.error.NumberError.TheVariants as number
 use Rattle.la_object.specs.declared.error.ShelfError.{ShelfError}
 use Rattle.la_object.specs.declared.error.ShelfError.TheVariants as shelf
 use Rattle.la_own.specs.declared.error.OwnError.{OwnError}
@@ -53,6 +55,11 @@ status_of_host (host.Line fault) = status_of_line fault
 status_of_host host.NoMessage = 21
 status_of_host (host.Node e) = status_of_node e
 status_of_host host.Memory = 1
+
+abbrev pub status_of_number : NumberError → ℕ
+status_of_number number.Stale = 26
+status_of_number number.Gap = 27
+status_of_number (number.Node e) = status_of_node e
 
 abbrev pub status_of_shelf : ShelfError → ℕ
 status_of_shelf shelf.Taken = 6

@@ -23,5 +23,5 @@ pub use mail::{lattice_again, lattice_next_mail, lattice_receive};
 pub use starting::{lattice_add, lattice_node_free, lattice_node_new, lattice_version};
 pub use submitting::{
     lattice_dec, lattice_inc, lattice_mark, lattice_outcome, lattice_own, lattice_propose,
-    lattice_put, lattice_raise, lattice_remove,
+    lattice_put, lattice_raise, lattice_remove, lattice_submit_at,
 };

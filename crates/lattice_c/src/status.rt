@@ -1,9 +1,10 @@
 // Statuses: one number for each way in which a call ends. `bindings/calls` has their names for other languages.
 ghost use Rattle.std.specs.Prelude.{◌≡◌};
-ghost use Rattle.lattice_c.specs.Statuses.{status_of_line, status_of_replica, status_of_world, status_of_node, status_of_host, status_of_shelf, status_of_own};
+ghost use Rattle.lattice_c.specs.Statuses.{status_of_line, status_of_replica, status_of_world, status_of_node};
+ghost use Rattle.lattice_c.specs.Statuses.{status_of_host, status_of_number, status_of_shelf, status_of_own};
 
 use la_durable::NodeError;
-use la_embed::HostError;
+use la_embed::{HostError, NumberError};
 use la_node::WorldError;
 use la_object::ShelfError;
 use la_own::OwnError;
@@ -61,6 +62,10 @@ pub const BAD_LINE: u8 = 23;
 pub const BAD_NUMBER: u8 = 24;
 
 pub const BAD_KIND: u8 = 25;
+
+pub const STALE: u8 = 26;
+
+pub const AHEAD: u8 = 27;
 
 pub fn status_of_line(fault: LineFault) -> u8
     ensures { result ≡ status_of_line fault }
@@ -123,6 +128,16 @@ pub fn status_of_host(refused: HostError) -> u8
         HostError::NoMessage => NO_MESSAGE,
         HostError::Node(refused) => status_of_node(refused),
         HostError::Memory => MEMORY,
+    }
+}
+
+pub fn status_of_number(refused: NumberError) -> u8
+    ensures { result ≡ status_of_number refused }
+{
+    match refused {
+        NumberError::Stale => STALE,
+        NumberError::Gap => AHEAD,
+        NumberError::Node(refused) => status_of_node(refused),
     }
 }
 

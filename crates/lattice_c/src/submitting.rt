@@ -1,5 +1,6 @@
 // What a node submits and proposes.
-ghost use Rattle.std.specs.Prelude.{◌≡◌, Some, IfOk, IfErr};
+ghost use Rattle.std.specs.Prelude.{◌≡◌, ◌^◌, nat_lt, true, false, Some, IfOk, IfErr};
+ghost use Rattle.lattice_c.specs.Numbered.{MakesOp, SubmitsAt};
 ghost use Rattle.la_object.specs.Shelves.{tags_at};
 ghost use Rattle.la_embed.specs.Hosts.{shelf_now, with_objects, IsUnseen};
 ghost use Rattle.la_set.specs.declared.update.Op.TheVariants.{Inc, Dec, Raise, Put, Mark};
@@ -7,10 +8,13 @@ ghost use Rattle.la_own.specs.Own.{own};
 ghost use Rattle.lattice_c.specs.Calls.{SubmitsFor, SubmitsOwn, Removes, Proposes, TellsOutcome};
 
 use crate::handle::Handle;
-use crate::status::{NONE, OK, status_of_node, status_of_own, status_of_shelf};
+use crate::status::{
+    BAD_KIND, NONE, OK, TOO_LARGE, status_of_node, status_of_number, status_of_own, status_of_shelf,
+};
 use la_object::ShelfError;
 use la_own::own_op;
 use la_set::{Op, Tags};
+use std::alloc::Global;
 
 // Submits an operation.
 fn submit(handle: &mut Handle, object: u16, op: Op, number: &mut u32) -> u8
@@ -87,6 +91,64 @@ pub extern "C" fn lattice_own(
     match own_op(alloc, bytes) {
         Ok(op) => submit(handle, object, op, number),
         Err(refused) => status_of_own(refused),
+    }
+}
+
+// An operation whose amount has 32 bits.
+fn amount(value: u64) -> Result<u32, u8>
+    ensures ok { IfOk result (λ amount. (amount ≡ value) × (nat_lt value (2 ^ 32) ≡ true)) }
+    ensures err { IfErr result (λ status. (status ≡ 9) × (nat_lt value (2 ^ 32) ≡ false)) }
+{
+    match u32::try_from(value) {
+        Ok(amount) => Ok(amount),
+        Err(_) => Err(TOO_LARGE),
+    }
+}
+
+// The operation of a kind with a value, or with bytes of one's own.
+fn op_told(alloc: Global, kind: u8, value: u64, bytes: &[u8]) -> Result<Op, u8>
+    ensures { MakesOp kind value bytes.now result }
+{
+    match kind {
+        1 => Ok(Op::Inc(amount(value)?)),
+        2 => Ok(Op::Dec(amount(value)?)),
+        3 => Ok(Op::Raise(value)),
+        4 => Ok(Op::Put(value)),
+        6 => Ok(Op::Mark),
+        8 => match own_op(alloc, bytes) {
+            Ok(op) => Ok(op),
+            Err(refused) => Err(status_of_own(refused)),
+        },
+        _ => Err(BAD_KIND),
+    }
+}
+
+/// Submits an operation as the node's update with this number, so that it counts once, however often it is asked for.
+/// The operation is of a kind as `lattice_next_learnt` tells it, but of kinds 5 and 7: of kinds 1 to 4 with this value,
+/// of kind 8 with these bytes of one's own.
+///
+/// `BAD_KIND` comes for any other kind; `TOO_LARGE` where an amount has more than 32 bits or there are over 248 bytes;
+/// `STALE` where another submission has this number; `AHEAD` where it is neither the next nor submitted; else it is as
+/// of each call that submits.
+#[unsafe(no_mangle)]
+pub extern "C" fn lattice_submit_at(
+    handle: &mut Handle,
+    number: u32,
+    object: u16,
+    kind: u8,
+    value: u64,
+    bytes: &[u8],
+) -> u8
+    ensures { SubmitsAt handle.old.host.host number object kind value bytes.now result handle.new.host.host }
+{
+    let alloc = handle.inner().alloc;
+    let op = match op_told(alloc, kind, value, bytes) {
+        Ok(op) => op,
+        Err(status) => return status,
+    };
+    match handle.inner().host.submit_at(number, object, op) {
+        Ok(()) => OK,
+        Err(refused) => status_of_number(refused),
     }
 }
 

@@ -7,9 +7,15 @@ use Rattle.la_embed.proofs.host.put_letters.Goals as goal
 pub loop-letter-init : goal.loop-letter-init
 loop-letter-init c =
     let gives = c.into_iter-letter-iterator.ensures.into_iter_gives in
-    let room = c.in_ok-reserve.ensures in
-    (refl, omega (arith, room.capacity, room.len, c.len.ensures, ap length gives.0), omega (arith, gives.1,
-        ap length gives.0))
+    let room = c.in_ok-reserve.ensures in (
+      refl,
+      omega (arith, room.capacity, room.len, c.len.ensures, ap length gives.0),
+      omega (
+        arith,
+        gives.1,
+        ap length gives.0,
+      ),
+    )
 
 pub push_back_reserved-requires : goal.push_back_reserved-requires
 push_back_reserved-requires c =

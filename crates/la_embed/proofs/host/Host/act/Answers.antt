@@ -21,7 +21,8 @@ returns-clause-step g c =
             c.in_ok-done.ensures.ok
             ∙ ap (λ (h : HostState). Some (given_of c.in_ok-done.field-0, h.kept)) (sym c.post.ensures.same);
         mail =
-            subst (λ kept. IsPosted c.args.links kept c.in_ok-done.field-0.done.mail c.self.inside.mail.items c.post.new.self.mail)
+            let sent = c.in_ok-done.field-0.done.mail in
+            subst (λ kept. IsPosted c.args.links kept sent c.self.inside.mail.items c.post.new.self.mail)
             (sym (ap (λ (h : HostState). h.kept) c.post.ensures.same)) c.post.ensures.mail;
         links = ap (λ (h : HostState). h.links) c.post.ensures.same;
         shelf = ap (λ (h : HostState). h.shelf) c.post.ensures.same;
