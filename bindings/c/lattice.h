@@ -95,7 +95,7 @@ enum lattice_status {
     LATTICE_NOT_FRESH = 7,
     /* More than 64 puts of the element are seen, and a removal takes out at most 64. */
     LATTICE_TOO_MANY_TAGS = 8,
-    /* An operation of one's own has more than 248 bytes. */
+    /* An operation of one's own has more than 248 bytes, or an amount has more than 32 bits. */
     LATTICE_TOO_LARGE = 9,
     /* The numbers make no group: one of them is out of its range. */
     LATTICE_BAD_GROUP = 10,
@@ -129,8 +129,12 @@ enum lattice_status {
     LATTICE_BAD_LINE = 23,
     /* A number in the line is malformed or out of its range. */
     LATTICE_BAD_NUMBER = 24,
-    /* No kind of object has this number. */
+    /* No kind of object has this number, or no kind of update that may be submitted so. */
     LATTICE_BAD_KIND = 25,
+    /* The node has submitted something else under this number. */
+    LATTICE_STALE = 26,
+    /* The node has submitted nothing under this number, and it is not the next. */
+    LATTICE_AHEAD = 27,
 };
 
 /* The kinds of objects, for lattice_add. */
@@ -220,6 +224,18 @@ uint8_t lattice_mark(lattice_node *handle, uint16_t object, uint32_t *number);
  */
 uint8_t lattice_own(lattice_node *handle, uint16_t object, const uint8_t *bytes, size_t bytes_len,
     uint32_t *number);
+
+/* Submits an operation as the node's update with this number, so that it counts once, however often
+ * it is asked for. The operation is of a kind as `lattice_next_learnt` tells it, but of kinds 5 and
+ * 7: of kinds 1 to 4 with this value, of kind 8 with these bytes of one's own.
+ *
+ * LATTICE_BAD_KIND comes for any other kind; LATTICE_TOO_LARGE where an amount has more than 32
+ * bits or there are over 248 bytes; LATTICE_STALE where another submission has this number;
+ * LATTICE_AHEAD where it is neither the next nor submitted; else it is as of each call that
+ * submits.
+ */
+uint8_t lattice_submit_at(lattice_node *handle, uint32_t number, uint16_t object, uint8_t kind,
+    uint64_t value, const uint8_t *bytes, size_t bytes_len);
 
 /* Proposes a value to an adopt-commit object. What is to be sent of it waits then.
  *

@@ -352,6 +352,31 @@ static void check_numbers(lattice_node *node) {
     CHECK(lattice_submitted(node) == 0);
 }
 
+/* Under a number a submission counts once. */
+static void test_submit_at(void) {
+    static const uint8_t bytes[OWN_ROOM + 1] = {0};
+    lattice_node node;
+    CHECK(lattice_node_new(3, 0, 0, 10, no_votes, 0, &node) == LATTICE_OK);
+    CHECK(lattice_submit_at(&node, 0, COUNTER, LATTICE_UPDATE_INC, 5, bytes, 0) == LATTICE_AHEAD);
+    CHECK(lattice_submit_at(&node, 2, COUNTER, LATTICE_UPDATE_INC, 5, bytes, 0) == LATTICE_AHEAD);
+    CHECK(lattice_submit_at(&node, 1, COUNTER, LATTICE_UPDATE_INC, 5, bytes, 0) == LATTICE_OK);
+    CHECK(lattice_submit_at(&node, 1, COUNTER, LATTICE_UPDATE_INC, 5, bytes, 0) == LATTICE_OK);
+    CHECK(lattice_submit_at(&node, 1, COUNTER, LATTICE_UPDATE_INC, 6, bytes, 0) == LATTICE_STALE);
+    CHECK(lattice_submit_at(&node, 1, REGISTER, LATTICE_UPDATE_INC, 5, bytes, 0) == LATTICE_STALE);
+    CHECK(lattice_submitted(&node) == 1);
+    CHECK(lattice_submit_at(&node, 2, COUNTER, LATTICE_UPDATE_REMOVE, 1, bytes, 0) == LATTICE_BAD_KIND);
+    CHECK(lattice_submit_at(&node, 2, COUNTER, LATTICE_UPDATE_VOTE, 1, bytes, 0) == LATTICE_BAD_KIND);
+    CHECK(lattice_submit_at(&node, 2, COUNTER, LATTICE_UPDATE_DEC, UINT32_MAX + 1ull, bytes, 0) == LATTICE_TOO_LARGE);
+    CHECK(lattice_submit_at(&node, 2, OWN, LATTICE_UPDATE_OWN, 0, bytes, OWN_ROOM + 1) == LATTICE_TOO_LARGE);
+    CHECK(lattice_submit_at(&node, 2, OWN, LATTICE_UPDATE_OWN, 0, bytes, OWN_ROOM) == LATTICE_OK);
+    CHECK(lattice_submit_at(&node, 2, OWN, LATTICE_UPDATE_OWN, 0, bytes, OWN_ROOM - 1) == LATTICE_STALE);
+    CHECK(lattice_submit_at(&node, 3, REGISTER, LATTICE_UPDATE_RAISE, 7, bytes, 0) == LATTICE_OK);
+    CHECK(lattice_submit_at(&node, 4, SET, LATTICE_UPDATE_PUT, 7, bytes, 0) == LATTICE_OK);
+    CHECK(lattice_submit_at(&node, 5, SET, LATTICE_UPDATE_MARK, 0, bytes, 0) == LATTICE_OK);
+    CHECK(lattice_submitted(&node) == 5);
+    lattice_node_free(node);
+}
+
 static uint8_t received(lattice_node *node, const char *line) {
     return lattice_receive(node, (const uint8_t *)line, strlen(line));
 }
@@ -600,6 +625,7 @@ static void test_threads(void) {
 int main(void) {
     test_calls();
     test_groups();
+    test_submit_at();
     test_refusals();
     test_memory();
     for (uint64_t seed = 1; seed <= 8; seed++) {

@@ -13,6 +13,7 @@ are a majority. """
 from __future__ import annotations
 
 from .errors import (
+    AheadError,
     AlreadyProposedError,
     BadGroupError,
     BadKindError,
@@ -33,6 +34,7 @@ from .errors import (
     NoReplicaError,
     NotFreshError,
     OutOfMemoryError,
+    StaleError,
     TakenError,
     TooLargeError,
     TooLongError,
@@ -45,6 +47,7 @@ __all__ = [
     "KEYED_BYTES",
     "OWN_BYTES",
     "Absorbs",
+    "AheadError",
     "AlreadyProposedError",
     "BadGroupError",
     "BadKindError",
@@ -70,6 +73,7 @@ __all__ = [
     "Operation",
     "OutOfMemoryError",
     "Outcome",
+    "StaleError",
     "TakenError",
     "TooLargeError",
     "TooLongError",

@@ -44,7 +44,7 @@ TAKEN = 6
 NOT_FRESH = 7
 # More than 64 puts of the element are seen, and a removal takes out at most 64.
 TOO_MANY_TAGS = 8
-# An operation of one's own has more than 248 bytes.
+# An operation of one's own has more than 248 bytes, or an amount has more than 32 bits.
 TOO_LARGE = 9
 # The numbers make no group: one of them is out of its range.
 BAD_GROUP = 10
@@ -77,8 +77,12 @@ TOO_LONG = 22
 BAD_LINE = 23
 # A number in the line is malformed or out of its range.
 BAD_NUMBER = 24
-# No kind of object has this number.
+# No kind of object has this number, or no kind of update that may be submitted so.
 BAD_KIND = 25
+# The node has submitted something else under this number.
+STALE = 26
+# The node has submitted nothing under this number, and it is not the next.
+AHEAD = 27
 
 # A counter: inc, dec, total, at_least.
 COUNTER = 0
@@ -178,6 +182,14 @@ CALLS = [
     # Submits an operation of one's own: up to 248 bytes, which no object here takes. TOO_LARGE
     # comes exactly above that.
     ("lattice_own", c_uint8, [POINTER(Node), c_uint16, POINTER(c_uint8), c_size_t, POINTER(c_uint32)]),
+    # Submits an operation as the node's update with this number, so that it counts once, however
+    # often it is asked for. The operation is of a kind as `lattice_next_learnt` tells it, but of
+    # kinds 5 and 7: of kinds 1 to 4 with this value, of kind 8 with these bytes of one's own.
+    #
+    # BAD_KIND comes for any other kind; TOO_LARGE where an amount has more than 32 bits or there
+    # are over 248 bytes; STALE where another submission has this number; AHEAD where it is neither
+    # the next nor submitted; else it is as of each call that submits.
+    ("lattice_submit_at", c_uint8, [POINTER(Node), c_uint32, c_uint16, c_uint8, c_uint64, POINTER(c_uint8), c_size_t]),
     # Proposes a value to an adopt-commit object. What is to be sent of it waits then.
     #
     # NO_COMMIT comes where there is no such object, ALREADY_PROPOSED where the node has proposed to

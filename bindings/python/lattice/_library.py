@@ -11,7 +11,7 @@ HERE = Path(__file__).resolve().parent
 
 
 def places() -> list[Path]:
-    """Where the library may be: where `LATTICE_LIBRARY` says, else in the package or where `bindings/build` leaves it."""
+    """Where the library may be: what `LATTICE_LIBRARY` names, else in the package or where `bindings/build` left it."""
     named = os.environ.get("LATTICE_LIBRARY")
     if named:
         return [Path(named)]

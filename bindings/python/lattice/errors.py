@@ -56,10 +56,10 @@ class TooManyTagsError(LatticeError):
 
 
 class TooLargeError(LatticeError):
-    """An operation of one's own has more than 248 bytes."""
+    """An operation of one's own has more than 248 bytes, or an amount has more than 32 bits."""
 
     status = 9
-    text = "an operation of one's own has more than 248 bytes"
+    text = "an operation of one's own has more than 248 bytes, or an amount has more than 32 bits"
 
 
 class BadGroupError(LatticeError):
@@ -172,10 +172,24 @@ class BadNumberError(LatticeError):
 
 
 class BadKindError(LatticeError):
-    """No kind of object has this number."""
+    """No kind of object has this number, or no kind of update that may be submitted so."""
 
     status = 25
-    text = "no kind of object has this number"
+    text = "no kind of object has this number, or no kind of update that may be submitted so"
+
+
+class StaleError(LatticeError):
+    """The node has submitted something else under this number."""
+
+    status = 26
+    text = "the node has submitted something else under this number"
+
+
+class AheadError(LatticeError):
+    """The node has submitted nothing under this number, and it is not the next."""
+
+    status = 27
+    text = "the node has submitted nothing under this number, and it is not the next"
 
 
 # The exceptions by the library's numbers.
@@ -203,6 +217,8 @@ ERRORS: dict[int, type[LatticeError]] = {
     23: BadLineError,
     24: BadNumberError,
     25: BadKindError,
+    26: StaleError,
+    27: AheadError,
 }
 
 

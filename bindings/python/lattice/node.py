@@ -97,6 +97,11 @@ def within(value: int, bits: int, name: str) -> int:
     return value
 
 
+def copied(data: bytes) -> ctypes.Array[ctypes.c_uint8]:
+    """Bytes where the library may read them: at least one, so that the pointer leads somewhere."""
+    return (ctypes.c_uint8 * max(len(data), 1)).from_buffer_copy(data or b"\0")
+
+
 class Node:
     """A replica of a group. Threads may share it: a call waits for the one before it.
 
@@ -212,9 +217,23 @@ class Node:
         `TooLargeError` comes exactly above `OWN_BYTES` bytes.
         """
         place = ctypes.c_uint32()
-        data = (ctypes.c_uint8 * max(len(operation), 1)).from_buffer_copy(operation or b"\0")
+        data = copied(operation)
         check(self._call(LIBRARY.lattice_own, within(object_number, 16, "object_number"), data, len(operation), place))
         return place.value
+
+    def submit_at(
+        self, number: int, object_number: int, operation: Operation, value: int = 0, own: bytes = b""
+    ) -> None:
+        """Submits an operation as this node's update with this number, so that it counts once, however often it is
+        asked for: under a number that has this very operation nothing changes. It has a value of 64 bits, or bytes of
+        one's own.
+
+        `BadKindError` comes for a removal and a vote, `TooLargeError` where an amount has more than 32 bits or there
+        are over `OWN_BYTES` bytes, `StaleError` where something else has this number, and `AheadError` where nothing
+        has it and it is not the next.
+        """
+        words = within(number, 32, "number"), within(object_number, 16, "object_number"), Operation(operation)
+        check(self._call(LIBRARY.lattice_submit_at, *words, within(value, 64, "value"), copied(own), len(own)))
 
     def propose(self, commit: int, value: int) -> None:
         """Proposes a value, of 64 bits, to an adopt-commit object.
@@ -238,8 +257,7 @@ class Node:
         `TooLongError`, `BadLineError` and `BadNumberError` come where it is no message, `NoMessageError` where it
         is what a client asks of a node, `ElsewhereError` where it is for another replica or group, and another
         `LatticeError` where no honest node sends it. """
-        data = (ctypes.c_uint8 * max(len(line), 1)).from_buffer_copy(line or b"\0")
-        check(self._call(LIBRARY.lattice_receive, data, len(line)))
+        check(self._call(LIBRARY.lattice_receive, copied(line), len(line)))
 
     def next_mail(self) -> Mail | None:
         """The next message that is to be sent, which then is no longer there; `None` where there is none."""

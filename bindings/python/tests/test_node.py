@@ -86,6 +86,34 @@ class Answers(unittest.TestCase):
             WriteMap.write(1, bytes(200), bytes(40))
 
 
+    def test_a_number_counts_once(self) -> None:
+        node = self.group.nodes[0]
+        operations = [
+            (Operation.INC, 5, b""),
+            (Operation.DEC, 7, b""),
+            (Operation.RAISE, 2**64 - 1, b""),
+            (Operation.PUT, 8, b""),
+            (Operation.MARK, 0, b""),
+            (Operation.OWN, 0, bytes(248)),
+        ]
+        for number, (operation, value, own) in enumerate(operations, 1):
+            with self.assertRaises(lattice.AheadError):
+                node.submit_at(number + 1, MAP, operation, value, own)
+            node.submit_at(number, MAP, operation, value, own)
+            node.submit_at(number, MAP, operation, value, own)
+            with self.assertRaises(lattice.StaleError):
+                node.submit_at(number, SET, operation, value, own)
+            self.assertEqual(node.submitted(), number)
+        for operation, value, own, error in [
+            (Operation.REMOVE, 1, b"", lattice.BadKindError),
+            (Operation.VOTE, 1, b"", lattice.BadKindError),
+            (Operation.INC, 2**32, b"", lattice.TooLargeError),
+            (Operation.OWN, 0, bytes(249), lattice.TooLargeError),
+        ]:
+            with self.assertRaises(error):
+                node.submit_at(7, MAP, operation, value, own)
+
+
 class Losses(unittest.TestCase):
     def run_lossy(self, seed: int) -> None:
         """Messages are lost, repeated and reordered: of any two views one has all that the other has, at any time."""

@@ -20,7 +20,7 @@ pub enum Error {
     NotFresh,
     /// More than 64 puts of the element are seen, and a removal takes out at most 64.
     TooManyTags,
-    /// An operation of one's own has more than 248 bytes.
+    /// An operation of one's own has more than 248 bytes, or an amount has more than 32 bits.
     TooLarge,
     /// The numbers make no group: one of them is out of its range.
     BadGroup,
@@ -53,8 +53,12 @@ pub enum Error {
     BadLine,
     /// A number in the line is malformed or out of its range.
     BadNumber,
-    /// No kind of object has this number.
+    /// No kind of object has this number, or no kind of update that may be submitted so.
     BadKind,
+    /// The node has submitted something else under this number.
+    Stale,
+    /// The node has submitted nothing under this number, and it is not the next.
+    Ahead,
     /// The library answered a status that this crate does not know.
     Unknown(u8),
 }
@@ -72,7 +76,9 @@ impl Error {
             Error::TooManyTags => {
                 "more than 64 puts of the element are seen, and a removal takes out at most 64"
             }
-            Error::TooLarge => "an operation of one's own has more than 248 bytes",
+            Error::TooLarge => {
+                "an operation of one's own has more than 248 bytes, or an amount has more than 32 bits"
+            }
             Error::BadGroup => "the numbers make no group: one of them is out of its range",
             Error::NoReplica => "the group has no replica of this number",
             Error::NoInstance => {
@@ -94,7 +100,13 @@ impl Error {
             Error::TooLong => "the line is longer than a message may be",
             Error::BadLine => "the line does not have the form of a message",
             Error::BadNumber => "a number in the line is malformed or out of its range",
-            Error::BadKind => "no kind of object has this number",
+            Error::BadKind => {
+                "no kind of object has this number, or no kind of update that may be submitted so"
+            }
+            Error::Stale => "the node has submitted something else under this number",
+            Error::Ahead => {
+                "the node has submitted nothing under this number, and it is not the next"
+            }
             Error::Unknown(_) => "no status here",
         }
     }
@@ -126,6 +138,8 @@ impl Error {
             sys::BAD_LINE => Error::BadLine,
             sys::BAD_NUMBER => Error::BadNumber,
             sys::BAD_KIND => Error::BadKind,
+            sys::STALE => Error::Stale,
+            sys::AHEAD => Error::Ahead,
             other => Error::Unknown(other),
         })
     }

@@ -1,5 +1,5 @@
 use crate::sys::{self, lattice_node};
-use crate::{Absorb, Config, Counts, Error, Kind, OWN_BYTES, Update};
+use crate::{Absorb, Config, Counts, Error, Kind, OWN_BYTES, Operation, Update};
 use std::cell::UnsafeCell;
 use std::fmt;
 use std::ptr::null_mut;
@@ -184,6 +184,40 @@ impl Node {
         // SAFETY: the bytes are as many as is said, and the number goes to a local.
         self.submit(|at, number| unsafe {
             sys::lattice_own(at, object, bytes.as_ptr(), bytes.len(), number)
+        })
+    }
+
+    /// Submits an operation as this node's update with this number, so that it counts once, however
+    /// often it is asked for: under a number that has this very operation nothing changes.
+    ///
+    /// [`Error::BadKind`] comes for a removal and a vote, [`Error::TooLarge`] where an amount is over
+    /// [`u32::MAX`] or there are over [`OWN_BYTES`] bytes, [`Error::Stale`] where something else has
+    /// this number, and [`Error::Ahead`] where nothing has it and it is not the next.
+    ///
+    /// ```
+    /// use lattice_agreement::{Config, Error, Node, Operation};
+    ///
+    /// # fn main() -> Result<(), Error> {
+    /// let mut node = Node::new(&Config::new(1, 0))?;
+    /// node.submit_at(1, 7, &Operation::Inc(5))?;
+    /// node.submit_at(1, 7, &Operation::Inc(5))?;
+    /// assert_eq!(node.submitted(), 1);
+    /// assert_eq!(node.submit_at(1, 7, &Operation::Inc(6)), Err(Error::Stale));
+    /// assert_eq!(node.submit_at(3, 7, &Operation::Inc(6)), Err(Error::Ahead));
+    /// # Ok(())
+    /// # }
+    /// ```
+    pub fn submit_at(
+        &mut self,
+        number: u32,
+        object: u16,
+        operation: &Operation,
+    ) -> Result<(), Error> {
+        let (kind, value, bytes) = operation.parts();
+        let (at, len) = (self.at(), bytes.len());
+        // SAFETY: the bytes are as many as is said.
+        Error::of(unsafe {
+            sys::lattice_submit_at(at, number, object, kind, value, bytes.as_ptr(), len)
         })
     }
 

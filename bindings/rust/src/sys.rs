@@ -84,7 +84,7 @@ pub const TAKEN: u8 = 6;
 pub const NOT_FRESH: u8 = 7;
 /// More than 64 puts of the element are seen, and a removal takes out at most 64.
 pub const TOO_MANY_TAGS: u8 = 8;
-/// An operation of one's own has more than 248 bytes.
+/// An operation of one's own has more than 248 bytes, or an amount has more than 32 bits.
 pub const TOO_LARGE: u8 = 9;
 /// The numbers make no group: one of them is out of its range.
 pub const BAD_GROUP: u8 = 10;
@@ -117,8 +117,12 @@ pub const TOO_LONG: u8 = 22;
 pub const BAD_LINE: u8 = 23;
 /// A number in the line is malformed or out of its range.
 pub const BAD_NUMBER: u8 = 24;
-/// No kind of object has this number.
+/// No kind of object has this number, or no kind of update that may be submitted so.
 pub const BAD_KIND: u8 = 25;
+/// The node has submitted something else under this number.
+pub const STALE: u8 = 26;
+/// The node has submitted nothing under this number, and it is not the next.
+pub const AHEAD: u8 = 27;
 
 /// A counter: inc, dec, total, at_least.
 pub const COUNTER: u8 = 0;
@@ -219,6 +223,23 @@ unsafe extern "C" {
         bytes: *const u8,
         bytes_len: usize,
         number: *mut u32,
+    ) -> u8;
+
+    /// Submits an operation as the node's update with this number, so that it counts once, however
+    /// often it is asked for. The operation is of a kind as `lattice_next_learnt` tells it, but of
+    /// kinds 5 and 7: of kinds 1 to 4 with this value, of kind 8 with these bytes of one's own.
+    ///
+    /// [`BAD_KIND`] comes for any other kind; [`TOO_LARGE`] where an amount has more than 32 bits
+    /// or there are over 248 bytes; [`STALE`] where another submission has this number; [`AHEAD`]
+    /// where it is neither the next nor submitted; else it is as of each call that submits.
+    pub fn lattice_submit_at(
+        handle: *mut lattice_node,
+        number: u32,
+        object: u16,
+        kind: u8,
+        value: u64,
+        bytes: *const u8,
+        bytes_len: usize,
     ) -> u8;
 
     /// Proposes a value to an adopt-commit object. What is to be sent of it waits then.

@@ -37,6 +37,22 @@ impl Update {
     }
 }
 
+impl Operation {
+    // Its kind, its value and its bytes, for a call.
+    pub(crate) fn parts(&self) -> (u8, u64, &[u8]) {
+        match self {
+            Operation::Inc(by) => (sys::UPDATE_INC, *by, &[]),
+            Operation::Dec(by) => (sys::UPDATE_DEC, *by, &[]),
+            Operation::Raise(to) => (sys::UPDATE_RAISE, *to, &[]),
+            Operation::Put(element) => (sys::UPDATE_PUT, *element, &[]),
+            Operation::Remove { puts } => (sys::UPDATE_REMOVE, *puts, &[]),
+            Operation::Mark => (sys::UPDATE_MARK, 0, &[]),
+            Operation::Vote(value) => (sys::UPDATE_VOTE, *value, &[]),
+            Operation::Own(bytes) => (sys::UPDATE_OWN, 0, bytes),
+        }
+    }
+}
+
 /// What an update does.
 #[derive(Clone, Debug, PartialEq, Eq, Hash)]
 #[non_exhaustive]

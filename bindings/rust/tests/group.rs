@@ -158,6 +158,36 @@ fn refusals_say_why() {
 }
 
 #[test]
+fn a_number_counts_once() {
+    let mut node = Node::new(&Config::new(3, 0)).unwrap();
+    let operations = [
+        Operation::Inc(5),
+        Operation::Dec(7),
+        Operation::Raise(u64::MAX),
+        Operation::Put(8),
+        Operation::Mark,
+        Operation::Own(vec![1; 248]),
+    ];
+    for (number, operation) in (1..).zip(&operations) {
+        assert_eq!(node.submit_at(number + 1, MAP, operation), Err(Error::Ahead));
+        assert_eq!(node.submit_at(number, MAP, operation), Ok(()));
+        assert_eq!(node.submit_at(number, MAP, operation), Ok(()));
+        assert_eq!(node.submit_at(number, SET, operation), Err(Error::Stale));
+        assert_eq!(node.submitted(), number);
+    }
+    for refused in [Operation::Remove { puts: 1 }, Operation::Vote(1)] {
+        assert_eq!(node.submit_at(7, MAP, &refused), Err(Error::BadKind));
+    }
+    for refused in [Operation::Inc(1 << 32), Operation::Own(vec![1; 249])] {
+        assert_eq!(node.submit_at(7, MAP, &refused), Err(Error::TooLarge));
+    }
+    assert_eq!(
+        (node.submit_at(0, MAP, &Operation::Mark), node.submitted()),
+        (Err(Error::Ahead), 6)
+    );
+}
+
+#[test]
 fn what_is_learnt_comes_once_and_in_order() {
     let mut group = Group::new(7);
     let long = [7; 248];
