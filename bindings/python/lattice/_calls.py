@@ -1,0 +1,258 @@
+# Made by bindings/generate from bindings/calls and crates/lattice_c: not to be edited.
+"""The calls of `liblattice`, as `lattice.h` declares them.
+
+`Node` is made of them; whoever calls them by himself is trusted with what follows.
+
+- A handle is what lattice_node_new puts into its place where it answers OK. Neither it nor a copy
+  of it is used once lattice_node_free was called.
+- One call at a time is made on a handle. It may go from thread to thread, where a lock, a thread's
+  start or a join orders the calls. Handles share nothing, and calls on different ones may run at
+  the same time.
+- No pointer is null, even where its length is 0. Behind it is as much as its type and its length
+  say, which may be written where a result goes there, and which overlaps nothing else that the call
+  is given.
+- The program's malloc, realloc and free are one allocator. No call is made from a signal handler,
+  nor in a process that was forked after the node was made: the node would be there twice under one
+  number.
+- A node keeps nothing on a disk. So once a node was stopped or lost, none may ever come back under
+  its number in its group: it would give an id to two updates, or accept what it had refused. The
+  others go on while they are a majority.
+"""
+from __future__ import annotations
+
+import ctypes
+from ctypes import POINTER, c_int64, c_size_t, c_uint8, c_uint16, c_uint32, c_uint64, c_void_p
+
+# The version of the interface.
+VERSION = 1
+
+# The call was done.
+OK = 0
+# Memory was refused.
+MEMORY = 1
+# There is none: no mail, no further update, no outcome yet.
+NONE = 2
+# The buffer has too little room. How much is wanted is told, and what was to be handed over stays.
+SMALL = 3
+# The object is of another kind than the question.
+FOREIGN = 4
+# No object has this number.
+NO_OBJECT = 5
+# An object has this number already.
+TAKEN = 6
+# The object has absorbed updates before it was added, which no call here can bring about.
+NOT_FRESH = 7
+# More than 64 puts of the element are seen, and a removal takes out at most 64.
+TOO_MANY_TAGS = 8
+# An operation of one's own has more than 248 bytes, or an amount has more than 32 bits.
+TOO_LARGE = 9
+# The numbers make no group: one of them is out of its range.
+BAD_GROUP = 10
+# The group has no replica of this number.
+NO_REPLICA = 11
+# The message belongs to an adopt-commit object that the group does not have.
+NO_INSTANCE = 12
+# The node has submitted as many updates as its cap allows.
+FULL = 13
+# The message stands on updates that this node does not have.
+NO_BASE = 14
+# The message leaves out an update before one that it brings.
+GAP = 15
+# The message has another update under an id that this node has: a node came back with less than it
+# had, or lies.
+CLASH = 16
+# The node has opened as many ballots as there can be: 8,000,000.
+BALLOTS_SPENT = 17
+# The group has no adopt-commit object of this number.
+NO_COMMIT = 18
+# The node has proposed to this adopt-commit object before.
+ALREADY_PROPOSED = 19
+# The message is for another replica, or for a group of another size.
+ELSEWHERE = 20
+# The line is something that clients ask of a node, and no message.
+NO_MESSAGE = 21
+# The line is longer than a message may be.
+TOO_LONG = 22
+# The line does not have the form of a message.
+BAD_LINE = 23
+# A number in the line is malformed or out of its range.
+BAD_NUMBER = 24
+# No kind of object has this number, or no kind of update that may be submitted so.
+BAD_KIND = 25
+# The node has submitted something else under this number.
+STALE = 26
+# The node has submitted nothing under this number, and it is not the next.
+AHEAD = 27
+
+# A counter: inc, dec, total, at_least.
+COUNTER = 0
+# A max register: raise, largest.
+MAX_REGISTER = 1
+# An observed-remove set: put, remove, has, size, items.
+OR_SET = 2
+
+# An addition to a counter, of this value.
+UPDATE_INC = 1
+# A subtraction from a counter, of this value.
+UPDATE_DEC = 2
+# A max register is at least this value.
+UPDATE_RAISE = 3
+# An element of this value is put into a set.
+UPDATE_PUT = 4
+# This many puts are taken out of a set.
+UPDATE_REMOVE = 5
+# No object changes.
+UPDATE_MARK = 6
+# A vote for this value, as only a peer that lies submits one here.
+UPDATE_VOTE = 7
+# An operation of one's own, whose bytes are in the buffer.
+UPDATE_OWN = 8
+
+
+class Node(ctypes.Structure):
+    """A handle: one pointer, which is the library's."""
+
+    _fields_ = [
+        ("at", c_void_p),
+    ]
+
+
+assert ctypes.sizeof(Node) == 8
+
+
+class Learnt(ctypes.Structure):
+    """An update, as it is handed to C."""
+
+    _fields_ = [
+        # The largest amount or value of the operation: of kinds 1 to 4 and 7 its number, of kind 5
+        # how many puts it takes out; else 0.
+        ("value", c_uint64),
+        # Its number among its replica's, from 1 on.
+        ("number", c_uint32),
+        # The number of its object.
+        ("object", c_uint16),
+        # The replica that submitted it.
+        ("replica", c_uint8),
+        # What it does: 1 inc, 2 dec, 3 raise, 4 put, 5 remove, 6 mark, 7 vote, 8 an operation of
+        # one's own.
+        ("kind", c_uint8),
+    ]
+
+
+assert ctypes.sizeof(Learnt) == 16
+
+# Each call with its result and the types of its parameters.
+CALLS = [
+    # The version of this interface: it grows where a call changes or goes.
+    ("lattice_version", c_uint32, []),
+    # Makes replica `own` of a group in which nothing has happened, and puts it into a place, which
+    # then is a handle. The group has 1 to 8 replicas with so many votes each (one each where none
+    # are given), up to 16 adopt-commit objects, and a cap of 1 to 1,000,000 updates a replica.
+    #
+    # In this order: BAD_GROUP where one of these is out of its range; NO_REPLICA; MEMORY. Then the
+    # place is as before.
+    ("lattice_node_new", c_uint8, [c_uint8, c_uint8, c_uint8, c_uint32, POINTER(c_uint16), c_size_t, POINTER(Node)]),
+    # Frees a node. The handle, and each copy of it, is then no handle.
+    ("lattice_node_free", None, [Node]),
+    # Adds an object under a number: of kind 0 a counter, of kind 1 a max register, of kind 2 an
+    # observed-remove set.
+    #
+    # BAD_KIND comes for any other kind, TAKEN where the number has an object, and else MEMORY.
+    ("lattice_add", c_uint8, [POINTER(Node), c_uint16, c_uint8]),
+    # Submits an addition to a counter, and answers the update's number. What is to be sent of it
+    # waits then.
+    #
+    # FULL comes where the node has submitted its cap, and else MEMORY or BALLOTS_SPENT; so it is of
+    # each call that submits.
+    ("lattice_inc", c_uint8, [POINTER(Node), c_uint16, c_uint32, POINTER(c_uint32)]),
+    # Submits a subtraction from a counter.
+    ("lattice_dec", c_uint8, [POINTER(Node), c_uint16, c_uint32, POINTER(c_uint32)]),
+    # Submits that a max register is at least this value.
+    ("lattice_raise", c_uint8, [POINTER(Node), c_uint16, c_uint64, POINTER(c_uint32)]),
+    # Submits that an element is put into an observed-remove set.
+    ("lattice_put", c_uint8, [POINTER(Node), c_uint16, c_uint64, POINTER(c_uint32)]),
+    # Submits that an element is taken out of an observed-remove set, as far as the view has it:
+    # what was put in at the same time elsewhere stays.
+    #
+    # NO_OBJECT comes where there is no such object, TOO_MANY_TAGS where over 64 puts of the element
+    # are seen; else it is as of each call that submits.
+    ("lattice_remove", c_uint8, [POINTER(Node), c_uint16, c_uint64, POINTER(c_uint32)]),
+    # Submits a mark, which changes no object.
+    ("lattice_mark", c_uint8, [POINTER(Node), c_uint16, POINTER(c_uint32)]),
+    # Submits an operation of one's own: up to 248 bytes, which no object here takes. TOO_LARGE
+    # comes exactly above that.
+    ("lattice_own", c_uint8, [POINTER(Node), c_uint16, POINTER(c_uint8), c_size_t, POINTER(c_uint32)]),
+    # Submits an operation as the node's update with this number, so that it counts once, however
+    # often it is asked for. The operation is of a kind as `lattice_next_learnt` tells it, but of
+    # kinds 5 and 7: of kinds 1 to 4 with this value, of kind 8 with these bytes of one's own.
+    #
+    # BAD_KIND comes for any other kind; TOO_LARGE where an amount has more than 32 bits or there
+    # are over 248 bytes; STALE where another submission has this number; AHEAD where it is neither
+    # the next nor submitted; else it is as of each call that submits.
+    ("lattice_submit_at", c_uint8, [POINTER(Node), c_uint32, c_uint16, c_uint8, c_uint64, POINTER(c_uint8), c_size_t]),
+    # Proposes a value to an adopt-commit object. What is to be sent of it waits then.
+    #
+    # NO_COMMIT comes where there is no such object, ALREADY_PROPOSED where the node has proposed to
+    # it, and else MEMORY.
+    ("lattice_propose", c_uint8, [POINTER(Node), c_uint8, c_uint64]),
+    # What the node returned from an adopt-commit object: the value, and whether it is committed (1)
+    # or adopted (0).
+    #
+    # NONE comes where it has returned nothing yet, or there is no such object.
+    ("lattice_outcome", c_uint8, [POINTER(Node), c_uint8, POINTER(c_uint64), POINTER(c_uint8)]),
+    # Takes the line of a message of another node, without its end, honest or not. What is to be
+    # sent then waits.
+    #
+    # TOO_LONG, BAD_LINE and BAD_NUMBER come where the bytes are no line of a message, NO_MESSAGE
+    # where it is what a client asks, ELSEWHERE where it is for another node or group; any other
+    # where the node refuses it, as no honest message is refused, and MEMORY.
+    ("lattice_receive", c_uint8, [POINTER(Node), POINTER(c_uint8), c_size_t]),
+    # The line of what is to be sent next, into a buffer: to whom it goes, and how many bytes it
+    # has. It is then no longer there: whoever loses it, loses a message. What is for the node
+    # itself is taken in before.
+    #
+    # NONE comes where nothing is to be sent; SMALL where the buffer has less room than the line has
+    # bytes, which are told, and the line stays; MEMORY, and it stays.
+    ("lattice_next_mail", c_uint8, [POINTER(Node), POINTER(c_uint8), POINTER(c_uint8), c_size_t, POINTER(c_size_t)]),
+    # What waits for an answer is put behind what is to be sent once more, but for what others are
+    # known to have. A host calls it by a timer.
+    ("lattice_again", c_uint8, [POINTER(Node)]),
+    # The next update that was learnt and not yet handed over: each is handed over once, of each
+    # replica in the order of numbers. Of an operation of one's own the bytes go into a buffer, and
+    # how many they are is told.
+    #
+    # NONE comes where there is no further one; SMALL where the buffer has less room than there are
+    # bytes, and then the update stays.
+    ("lattice_next_learnt", c_uint8, [POINTER(Node), POINTER(Learnt), POINTER(c_uint8), c_size_t, POINTER(c_size_t)]),
+    # How many updates of each replica the view has.
+    ("lattice_view", None, [POINTER(Node), POINTER(c_uint32 * 8)]),
+    # How many updates of each replica another node's view has at least, as far as was heard: none,
+    # of a replica of 8 or more.
+    ("lattice_known", None, [POINTER(Node), c_uint8, POINTER(c_uint32 * 8)]),
+    # How many updates the node has submitted: the number of the last.
+    ("lattice_submitted", c_uint32, [POINTER(Node)]),
+    # A counter's total: its increments less its decrements. NO_OBJECT comes where there is no such
+    # object, FOREIGN where it is of another kind, and MEMORY; so it is of each question.
+    ("lattice_total", c_uint8, [POINTER(Node), c_uint16, POINTER(c_int64)]),
+    # Whether (1) or not (0) a counter's total is at least a number.
+    ("lattice_at_least", c_uint8, [POINTER(Node), c_uint16, c_uint64, POINTER(c_uint8)]),
+    # The largest value that a max register was raised to, or 0.
+    ("lattice_largest", c_uint8, [POINTER(Node), c_uint16, POINTER(c_uint64)]),
+    # Whether (1) or not (0) an observed-remove set has an element.
+    ("lattice_has", c_uint8, [POINTER(Node), c_uint16, c_uint64, POINTER(c_uint8)]),
+    # How many elements an observed-remove set has.
+    ("lattice_size", c_uint8, [POINTER(Node), c_uint16, POINTER(c_uint64)]),
+    # An observed-remove set's elements in ascending order, into a buffer, and how many there are.
+    # SMALL comes where the buffer has room for fewer: then they are only counted.
+    ("lattice_items", c_uint8, [POINTER(Node), c_uint16, POINTER(c_uint64), c_size_t, POINTER(c_size_t)]),
+]
+
+
+def declare(library: ctypes.CDLL) -> None:
+    """Gives each call of a library its types, and holds the library's version against this file's."""
+    for name, result, parameters in CALLS:
+        call = getattr(library, name)
+        call.restype, call.argtypes = result, parameters
+    found = int(library.lattice_version())
+    if found != VERSION:
+        raise ImportError(f"liblattice has version {found} of the interface, and not {VERSION}")
