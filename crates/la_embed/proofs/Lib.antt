@@ -1,3 +1,6 @@
 pub mod Lists
 pub mod Growing
 pub mod Told
+pub mod Handed
+pub mod Stepping
+pub mod Together

@@ -4,3 +4,4 @@ pub mod Hosts
 pub mod Refusals
 pub mod Receiving
 pub mod Objects
+pub mod Together
