@@ -1,19 +1,19 @@
 -- Each update of a view is handed on once.
-use Rattle.std.proofs.Common.{◌≡◌, inl, inr, ℕ, ◌+◌, ◌-◌, ◌<◌, ◌==◌, Bool, true, cond, List, [], ◌∷◌, Option, Some, None}
-use Rattle.std.proofs.Common.{filter, drop, slice_get, refl, sym, ap, subst, ◌∙◌, arith}
+use Rattle.std.proofs.Common.{◌≡◌, inl, inr, ℕ, ◌+◌, ◌-◌, ◌<◌, ◌==◌, Bool, cond, List, [], ◌∷◌, Option, Some, None}
+use Rattle.std.proofs.Common.{drop, slice_get, refl, sym, ap, subst, ◌∙◌, arith}
 use Rattle.std.proofs.lemmas.Bool.{cases_lt, cases_eq, eq-eqb, ne_eqb}
 use Rattle.std.proofs.lemmas.List.{drop_all}
 use Rattle.la_set.specs.declared.counts.Counts.{Counts}
 use Rattle.la_set.specs.declared.update.Update.{Update}
 use Rattle.la_set.specs.declared.update.UpdateId.{UpdateId}
-use Rattle.la_set.specs.Counts.{count_in, from_counts, zero_counts}
-use Rattle.la_set.specs.Histories.{Histories, count, get, history, numbered, updates_of}
+use Rattle.la_set.specs.Counts.{count_in, zero_counts}
+use Rattle.la_set.specs.Histories.{Histories, get, history, updates_of}
 use Rattle.la_set.proofs.lemmas.Counting.{count_in-from_counts, count_in-past}
 use Rattle.la_set.proofs.lemmas.NumberedLists.{length-numbered}
 use Rattle.la_set.proofs.lemmas.Places.{numbered-get}
 use Rattle.la_set.proofs.lemmas.SetHistories.{known_from_count}
 use Rattle.la_object.proofs.lemmas.IdMaps.{drop_some}
-use Rattle.la_embed.specs.Learnt.{IsNextOf, IsNext, HandsOn, handed_with, handed_after}
+use Rattle.la_embed.specs.Learnt.{IsNextOf, IsNext, handed_with, handed_after}
 use Rattle.la_embed.specs.Learnt.{Handing, IsHandedIn, AreHandedOn, handed_of, EachIsHandedOnce}
 
 -- ## What comes next is one update
@@ -41,7 +41,8 @@ noted_so before after h is =
 
 -- ## How many were handed on
 
-count_there : (handed : Counts) (id : UpdateId) → id.replica < 8 → count_in (handed_with handed id) id.replica ≡ id.number
+count_there : (handed : Counts) (id : UpdateId) → id.replica < 8
+    → count_in (handed_with handed id) id.replica ≡ id.number
 count_there handed id known =
     count_in-from_counts (λ r. cond (r == id.replica) id.number (count_in handed r)) id.replica known
     ∙ ap (λ b. cond b id.number (count_in handed id.replica)) (eq-eqb id.replica id.replica refl)

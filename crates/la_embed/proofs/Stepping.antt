@@ -1,6 +1,6 @@
 -- What a step of a host is for its group: its replica keeps its number, and what it receives was sent.
-use Rattle.std.proofs.Common.{◌≡◌, inl, inr, ℕ, nat_lt, ◌==◌, Bool, true, false, ◌&&◌, cond, List, length, slice_get}
-use Rattle.std.proofs.Common.{Contains, Option, Some, None, option_and_then, refl, sym, ap, subst, ◌∙◌}
+use Rattle.std.proofs.Common.{◌≡◌, ℕ, nat_lt, ◌==◌, Bool, true, false, ◌&&◌, cond, List, length, slice_get}
+use Rattle.std.proofs.Common.{Option, Some, None, option_and_then, refl, sym, ap, subst, ◌∙◌}
 use Rattle.std.proofs.lemmas.Bool.{eqb-true, false≢true}
 use Rattle.std.proofs.lemmas.Option.{none-some, same_Some}
 use Rattle.la_set.specs.ObjectOps.{ObjectOp}
@@ -13,7 +13,6 @@ use Rattle.la_replica.specs.declared.parcel.Content.TheVariants as content
 use Rattle.la_replica.specs.Parcels.{AreAlikeParcels, AreAlikeContents, unwrapped_in, view_of}
 use Rattle.la_replica.specs.Received.{received_in}
 use Rattle.la_replica.specs.ReplicaState.{ReplicaState, sender_of, after_step, submits, receives}
-use Rattle.la_replica.specs.Steps.{learnt_in}
 use Rattle.la_replica.specs.Steps as steps
 use Rattle.la_replica.specs.Whole.{Message, Out}
 use Rattle.la_node.specs.declared.link.Letter.{Letter}
@@ -24,7 +23,7 @@ use Rattle.la_node.specs.Steps.{Given, node_step, step_given, of_submission, of_
 use Rattle.la_node.specs.Taking.{Taken, takes, then_votes, vote_due, with_vote, without_vote}
 use Rattle.la_node.proofs.lemmas.Tests.{decides-unwraps}
 use Rattle.la_node.proofs.lemmas.Stepping.{some_of}
-use Rattle.la_wire.specs.Messages.{WireMessage, letter_message, said_content}
+use Rattle.la_wire.specs.Messages.{WireMessage, said_content}
 use Rattle.la_wire.specs.Calls.{WireCall, Submit, Decide, Ask, Tick, Receive, Known}
 use Rattle.la_durable.specs.Nodes.{acts, node_call, parcel_of, content_of}
 use Rattle.la_world.specs.LiveGroups.{learnt_by_call}

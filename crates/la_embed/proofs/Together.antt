@@ -1,7 +1,7 @@
 -- Hosts stay together.
-use Rattle.std.proofs.Common.{◌≡◌, inl, inr, ℕ, zero, suc, ◌+◌, Bool, true, false, List, [], ◌∷◌, ◌++◌, length, map, filter}
-use Rattle.std.proofs.Common.{drop, slice_get, slice_set, Contains, Option, Some, None, Ok, Err, Result, cond, refl, sym, ap}
-use Rattle.std.proofs.Common.{subst, ◌∙◌, ◌==◌, ◌&&◌, append-nil, arith}
+use Rattle.std.proofs.Common.{◌≡◌, inl, inr, ℕ, zero, suc, ◌+◌, Bool, true, false, List, [], ◌∷◌, ◌++◌, length, map}
+use Rattle.std.proofs.Common.{drop, slice_get, slice_set, Contains, Option, Some, None, Ok, Err, Result, cond, refl}
+use Rattle.std.proofs.Common.{filter, sym, ap, subst, ◌∙◌, ◌==◌, ◌&&◌, append-nil, arith}
 use Rattle.std.specs.List.{range_with_len}
 use Rattle.std.proofs.lemmas.Bool.{eqb-true, false≢true}
 use Rattle.std.proofs.lemmas.List.Elements.{Contains-append_left, Contains-append_right, Contains-append_cases}
@@ -30,8 +30,9 @@ use Rattle.la_world.specs.Together.{ViewsTogetherAreComparable, CommitsTogetherA
 use Rattle.la_world.proofs.lemmas.Letters.{mapped_from, mapped_has}
 use Rattle.la_embed.specs.declared.outgoing.Outgoing.{Outgoing}
 use Rattle.la_embed.specs.declared.outgoing.Outgoing.TheVariants as out
-use Rattle.la_embed.specs.Hosts.{HostState, IsHostStep, IsSentAgain, IsPosted, IsToldBack, host_of, with_mail, with_letters}
-use Rattle.la_embed.specs.Receiving.{TakesLine, TakesRead, TakesLetter, IsTaken, BringsOwn, own_first, links_by, brings_nothing}
+use Rattle.la_embed.specs.Hosts.{HostState, IsHostStep, IsSentAgain, IsPosted, IsToldBack}
+use Rattle.la_embed.specs.Hosts.{host_of, with_mail, with_letters}
+use Rattle.la_embed.specs.Receiving.{TakesLine, TakesRead, IsTaken, BringsOwn, own_first, links_by, brings_nothing}
 use Rattle.la_embed.specs.Together.{kept_of_hosts, AreHostsTogether, AreStillTogether, IsLineOfSent}
 use Rattle.la_embed.specs.Together.{IsCallOfSent, learnt_by_host, NewHostsAreTogether, StepsKeepHostsTogether}
 use Rattle.la_embed.specs.Together.{LinesKeepHostsTogether, OwnMailKeepsHostsTogether, RepeatsKeepHostsTogether}
@@ -91,8 +92,8 @@ unfolding is_standing
 no_letter standing letter e = false≢true (sym (ap is_standing e))
 
 -- an answer puts no letter there
-told_back : (standing : Standing) (before mail : List Outgoing) (letters : List Letter) → IsToldBack standing before mail
-    → AreSent before letters → AreSent mail letters
+told_back : (standing : Standing) (before mail : List Outgoing) (letters : List Letter)
+    → IsToldBack standing before mail → AreSent before letters → AreSent mail letters
 told_back standing before mail letters (inr lost) old letter has =
     old letter (subst (λ ms. Contains ms (out.Letter letter)) lost has)
 told_back standing before mail letters (inl put) old letter has =
@@ -266,7 +267,8 @@ module _ (hosts : List HostState) (letters : List Letter) (learnt : List LearntS
   read_on calls after (Ok (Receive m)) may (letter, is, takes) =
       let to : letter.parcel.to ≡ r =
       eqb-true letter.parcel.to before.kept.own
-      (and_right (letter.replicas == length before.kept.votes) (letter.parcel.to == before.kept.own) takes.here) ∙ own in
+      (and_right (letter.replicas == length before.kept.votes) (letter.parcel.to == before.kept.own) takes.here)
+      ∙ own in
       taken_on calls after letter (brings_nothing before.kept.view letter)
       (subst (λ x. IsCallOfSent letters (Receive x)) (sym is)
       (may m refl (sym (ap (λ (x : WireMessage). x.to) is) ∙ to))) takes.taken
