@@ -1,10 +1,12 @@
--- What of a view has been handed on, by counts, and which update comes next.
-use Rattle.std.specs.Prelude.{◌≡◌, ℕ, ◌+◌, ◌<◌, ◌≤◌, ◌==◌, Option, Some, None, if◌then◌else◌}
+-- What of a view has been handed on, by counts, which update comes next, and all that is handed on so.
+use Rattle.std.specs.Prelude.{◌≡◌, ℕ, ◌+◌, ◌<◌, ◌≤◌, ◌==◌, List, [], ◌∷◌, map, filter, Option, Some, None}
+use Rattle.std.specs.Prelude.{if◌then◌else◌}
 use Rattle.la_set.specs.declared.counts.Counts.{Counts}
 use Rattle.la_set.specs.declared.update.Update.{Update}
 use Rattle.la_set.specs.declared.update.UpdateId.{UpdateId}
-use Rattle.la_set.specs.Counts.{count_in, from_counts}
-use Rattle.la_set.specs.Histories.{Histories, count, get}
+use Rattle.la_set.specs.Counts.{count_in, from_counts, zero_counts}
+use Rattle.la_set.specs.Histories.{Histories, count, get, updates_of}
+use Rattle.la_set.specs.Inclusion.{IsSubset}
 
 -- of replicas before this one all updates of a view were handed on
 abbrev pub AreHanded : (handed : Counts) → (view : Histories) → (before : ℕ) → Type 0
@@ -38,3 +40,33 @@ handed_after handed (Some id) = handed_with handed id
 abbrev pub HandsOnNext : (view : Histories) → (before after : Counts) → Type 0
 HandsOnNext view before after =
     (next : Option UpdateId) × IsNextId before view next × (after ≡ handed_after before next)
+
+-- ## All that is handed on
+
+-- an update that was handed on, and the view then
+pub record Handing : Type 0 where
+  pub view : Histories
+  pub update : Update
+
+-- it came next of its view, and then note was taken of that
+pub record IsHandedIn (before : Counts) (handing : Handing) (after : Counts) : Type 0 where
+  pub next : IsNextLearnt before handing.view (Some handing.update)
+  pub noted : HandsOnNext handing.view before after
+
+-- These were handed on one after another, until all of a view were. The views before were parts of it.
+abbrev pub AreHandedOn : (before : Counts) → List Handing → (view : Histories) → Type 0
+AreHandedOn before [] view = IsNextId before view None
+AreHandedOn before (handing ∷ handings) view =
+    IsSubset handing.view view
+    × ((after : Counts) × IsHandedIn before handing after × AreHandedOn after handings view)
+
+-- those of replica r among them
+abbrev pub handed_of : (r : ℕ) → List Handing → List Update
+handed_of r handings = filter (λ (u : Update). u.id.replica == r) (map (λ (h : Handing). h.update) handings)
+
+-- Where all of a view were handed on from nothing on, they are of each replica its updates in the view, each once, in
+-- the order of their numbers.
+abbrev pub EachIsHandedOnce : Type 0
+EachIsHandedOnce =
+    (handings : List Handing) (view : Histories) (r : ℕ) →
+    AreHandedOn zero_counts handings view → handed_of r handings ≡ updates_of view r

@@ -5,3 +5,4 @@ pub mod Refusals
 pub mod Receiving
 pub mod Objects
 pub mod Numbers
+pub mod Together

@@ -10,6 +10,7 @@
 mod embedded;
 mod error;
 mod host;
+pub mod laws;
 mod learnt;
 mod object;
 mod outgoing;

@@ -1,5 +1,5 @@
 ghost use Rattle.std.specs.Prelude.{◌≡◌, ◌++◌, OnOk};
-ghost use Rattle.la_embed.specs.Outgoing.{receiver, outgoing_text};
+ghost use Rattle.la_embed.specs.Outgoing.{IsTypedOutgoing, receiver, outgoing_text};
 
 use la_node::{Letter, Standing};
 use la_wire::{put_known_line, put_letter};
@@ -26,9 +26,10 @@ impl Outgoing {
     }
 
     /// Puts its line behind what is there, without a line's end, at a cost linear in it. After a refusal
-    /// a part of it may stand there.
+    /// a part of it may stand there. A letter that was put is in the ranges of its types.
     pub fn put(&self, out: &mut Vec<u8>) -> Result<(), AllocError>
-        ensures { OnOk result (out.new.items ≡ out.old.items ++ outgoing_text self.now) }
+        ensures exact { OnOk result (out.new.items ≡ out.old.items ++ outgoing_text self.now) }
+        ensures typed { OnOk result (IsTypedOutgoing self.now) }
     {
         match self {
             Outgoing::Letter(letter) => put_letter(out, letter),

@@ -1,0 +1,391 @@
+-- Hosts stay together.
+use Rattle.std.proofs.Common.{◌≡◌, inl, inr, ℕ, zero, suc, ◌+◌, Bool, true, false, List, [], ◌∷◌, ◌++◌, length, map}
+use Rattle.std.proofs.Common.{drop, slice_get, slice_set, Contains, Option, Some, None, Ok, Err, Result, cond, refl}
+use Rattle.std.proofs.Common.{filter, sym, ap, subst, ◌∙◌, ◌==◌, ◌&&◌, append-nil, arith}
+use Rattle.std.specs.List.{range_with_len}
+use Rattle.std.proofs.lemmas.Bool.{eqb-true, false≢true}
+use Rattle.std.proofs.lemmas.List.Elements.{Contains-append_left, Contains-append_right, Contains-append_cases}
+use Rattle.std.proofs.lemmas.Option.{none-some, same_Some}
+use Rattle.la_set.proofs.lemmas.Filters.{Contains-cons_cases, Contains-first, Contains-later, Contains-none}
+use Rattle.la_proposer.specs.Majority.{votes_of}
+use Rattle.la_replica.specs.declared.message.Message as code
+use Rattle.la_replica.specs.Messages.{group}
+use Rattle.la_replica.specs.ReplicaState.{ReplicaState, start}
+use Rattle.la_node.specs.declared.link.Letter.{Letter}
+use Rattle.la_node.specs.declared.link.Links.{Links}
+use Rattle.la_node.specs.declared.link.Standing.{Standing}
+use Rattle.la_node.specs.Links.{letters_of, is_owed, standing_of}
+use Rattle.la_node.specs.Steps.{Given}
+use Rattle.la_wire.specs.declared.error.LineFault.{LineFault}
+use Rattle.la_wire.specs.declared.error.LineFault.TheVariants.{TooLong}
+use Rattle.la_wire.specs.Messages.{WireMessage, letter_message}
+use Rattle.la_wire.specs.MessageLines.{message_text}
+use Rattle.la_wire.specs.Calls.{WireCall, Submit, Decide, Ask, Tick, Receive, Known}
+use Rattle.la_wire.specs.CallLines.{named_call, bounded_call_of, call_of, said_ok}
+use Rattle.la_wire.specs.Writable.{IsTypedMessage}
+use Rattle.la_world.specs.Calls.{replica_states_at_start}
+use Rattle.la_world.specs.LiveGroups.{LearntSet}
+use Rattle.la_world.specs.Together.{AreTogether, NewReplicasAreTogether, CallsKeepTogether, RepeatsKeepTogether}
+use Rattle.la_world.specs.Together.{ViewsTogetherAreComparable, CommitsTogetherAgree}
+use Rattle.la_world.proofs.lemmas.Letters.{mapped_from, mapped_has}
+use Rattle.la_embed.specs.declared.outgoing.Outgoing.{Outgoing}
+use Rattle.la_embed.specs.declared.outgoing.Outgoing.TheVariants as out
+use Rattle.la_embed.specs.Hosts.{HostState, IsHostStep, IsPostedAgain, IsPosted, IsToldBack}
+use Rattle.la_embed.specs.Hosts.{host_of, with_mail, with_letters}
+use Rattle.la_embed.specs.Receiving.{TakesHostLine, TakesRead, IsTaken, BringsOwn, own_first, links_by, brings_nothing}
+use Rattle.la_embed.specs.Together.{kept_of_hosts, AreHostsTogether, AreStillTogether, IsLineOfSent}
+use Rattle.la_embed.specs.Together.{IsCallOfSent, learnt_by_host, NewHostsAreTogether, StepsKeepHostsTogether}
+use Rattle.la_embed.specs.Together.{LinesKeepHostsTogether, OwnMailKeepsHostsTogether, RepeatsKeepHostsTogether}
+use Rattle.la_embed.specs.Together.{OthersKeepHostsTogether, HostViewsAreComparable, HostCommitsAgree}
+use Rattle.la_embed.proofs.Stepping.{action_of}
+
+-- ## Places of a list
+
+get_kept : (hosts : List HostState) (r : ℕ) (h : HostState) → slice_get hosts r ≡ Some h
+    → slice_get (kept_of_hosts hosts) r ≡ Some h.kept
+get_kept [] r h e = absurd (none-some h e)
+get_kept (x ∷ xs) zero h e = ap (λ (m : HostState). Some m.kept) (same_Some x h e)
+get_kept (x ∷ xs) (suc r) h e = get_kept xs r h e
+
+set_kept : (hosts : List HostState) (r : ℕ) (h : HostState)
+    → kept_of_hosts (slice_set hosts r h) ≡ slice_set (kept_of_hosts hosts) r h.kept
+set_kept [] r h = refl
+set_kept (x ∷ xs) zero h = refl
+set_kept (x ∷ xs) (suc r) h = ap (λ ss. x.kept ∷ ss) (set_kept xs r h)
+
+set_same : (states : List ReplicaState) (r : ℕ) (q : ReplicaState) → slice_get states r ≡ Some q
+    → slice_set states r q ≡ states
+set_same [] r q e = refl
+set_same (x ∷ xs) zero q e = ap (λ y. y ∷ xs) (sym (same_Some x q e))
+set_same (x ∷ xs) (suc r) q e = ap (λ ss. x ∷ ss) (set_same xs r q e)
+
+set_each : (P : ℕ → HostState → Type 0) (xs : List HostState) (r : ℕ) (m : HostState)
+    → ((s : ℕ) (k : HostState) → slice_get xs s ≡ Some k → P s k) → P r m
+    → (s : ℕ) (k : HostState) → slice_get (slice_set xs r m) s ≡ Some k → P s k
+set_each P [] r m all here s k e = all s k e
+set_each P (x ∷ xs) zero m all here zero k e = subst (P zero) (same_Some m k e) here
+set_each P (x ∷ xs) zero m all here (suc s) k e = all (suc s) k e
+set_each P (x ∷ xs) (suc r) m all here zero k e = all zero k e
+set_each P (x ∷ xs) (suc r) m all here (suc s) k e =
+    set_each (λ j. P (suc j)) xs r m (λ j. all (suc j)) here s k e
+
+-- ## What waits
+
+-- each letter that waits is one of these
+abbrev AreSent : List Outgoing → List Letter → Type 0
+AreSent mail letters = (letter : Letter) → Contains mail (out.Letter letter) → Contains letters letter
+
+letter_same : (a b : Letter) → out.Letter a ≡ out.Letter b → a ≡ b
+letter_same a b e =
+    ap (λ (o : Outgoing). letter_or a o) e
+  where
+    letter_or : Letter → Outgoing → Letter
+    letter_or a (out.Letter letter) = letter
+    letter_or a (out.Standing standing) = a
+
+is_standing : Outgoing → Bool
+is_standing (out.Letter letter) = false
+is_standing (out.Standing standing) = true
+
+no_letter : (standing : Standing) (letter : Letter) → out.Standing standing ≡ out.Letter letter → ⊥
+unfolding is_standing
+no_letter standing letter e = false≢true (sym (ap is_standing e))
+
+-- an answer puts no letter there
+told_back : (standing : Standing) (before mail : List Outgoing) (letters : List Letter)
+    → IsToldBack standing before mail → AreSent before letters → AreSent mail letters
+told_back standing before mail letters (inr lost) old letter has =
+    old letter (subst (λ ms. Contains ms (out.Letter letter)) lost has)
+told_back standing before mail letters (inl put) old letter has =
+    elim (Contains-append_cases before (out.Standing standing ∷ []) (out.Letter letter)
+    (subst (λ ms. Contains ms (out.Letter letter)) put has)) [
+      | inl there ↦ old letter there
+      | inr new ↦ elim (Contains-cons_cases (out.Standing standing) [] (out.Letter letter) new) [
+        | inl same ↦ absurd (no_letter standing letter same)
+        | inr none ↦ absurd (Contains-none (out.Letter letter) none)
+      ]
+    ]
+
+first_gone : (mail : List Outgoing) (o : Outgoing) → Contains (drop 1 mail) o → Contains mail o
+first_gone [] o has = has
+first_gone (first ∷ mail) o has = Contains-later first mail o has
+
+where_own : (b : Bool) (letter own : Letter) → cond b (Some letter) None ≡ Some own → letter ≡ own
+where_own true letter own e = same_Some letter own e
+where_own false letter own e = absurd (none-some own e)
+
+-- what a host sends to itself waits first
+own_waits : (q : ReplicaState) (mail : List Outgoing) (own : Letter) → own_first q mail ≡ Some own
+    → Contains mail (out.Letter own)
+own_waits q [] own e = absurd (none-some own e)
+own_waits q (out.Letter letter ∷ mail) own e =
+    subst (λ l. Contains (out.Letter letter ∷ mail) (out.Letter l))
+    (where_own (letter.parcel.to == q.own) letter own e) (Contains-first (out.Letter letter) mail)
+own_waits q (out.Standing standing ∷ mail) own e = absurd (none-some own e)
+
+put_behind : (before : List Outgoing) (letters more : List Letter) → AreSent before letters
+    → AreSent (with_letters before more) (letters ++ more)
+put_behind before letters more sent letter has = elim (Contains-append_cases before (map out.Letter more) (out.Letter
+    letter) has) [
+  | inl old ↦ Contains-append_left letters more letter (sent letter old)
+  | inr new ↦
+    let from = mapped_from out.Letter more (out.Letter letter) new in
+    Contains-append_right letters more letter (subst (Contains more) (letter_same from.0 letter from.2) from.1)
+]
+
+posted : (heard : Links) (made : ReplicaState) (sent : List code.Message) (before mail : List Outgoing)
+    (letters : List Letter) → AreSent before letters → IsPosted heard made sent before mail
+    → AreSent mail (letters ++ letters_of heard made sent)
+posted heard made sent before mail letters old (inl put) =
+    subst (λ ms. AreSent ms (letters ++ letters_of heard made sent)) (sym put)
+    (put_behind before letters (letters_of heard made sent) old)
+posted heard made sent before mail letters old (inr lost) =
+    λ letter has.
+    Contains-append_left letters (letters_of heard made sent) letter
+    (old letter (subst (λ ms. Contains ms (out.Letter letter)) lost has))
+
+-- ## They stay together
+
+-- a line that was put of a letter is never read as another one
+abbrev LettersAreReadBack : Type 0
+LettersAreReadBack =
+    (m n : WireMessage) → IsTypedMessage m → named_call (message_text m) ≡ Some (Receive n) → n ≡ m
+
+-- a call is read of a line that is not too long
+when_short : (too_long : Bool) (read : Result WireCall LineFault) (call : WireCall)
+    → cond too_long (Err TooLong) read ≡ Ok call → said_ok read ≡ Some call
+when_short true read call e = absurd (none-some call (ap said_ok e))
+when_short false read call e = ap said_ok e
+
+and_right : (a b : Bool) → (a && b) ≡ true → b ≡ true
+and_right true b e = e
+and_right false b e = absurd (false≢true e)
+
+module _ (hosts : List HostState) (letters : List Letter) (learnt : List LearntSet) (r : ℕ) (before : HostState)
+    (are : AreHostsTogether hosts letters learnt) (at : slice_get hosts r ≡ Some before) where
+  at_kept : slice_get (kept_of_hosts hosts) r ≡ Some before.kept
+  at_kept = get_kept hosts r before at
+
+  own : before.kept.own ≡ r
+  own = are.places r before at
+
+  waiting : AreSent before.mail letters
+  waiting letter has = are.sent r before letter at has
+
+  -- once one of them is this, with letters more
+  with_more : (after : HostState) (more : List Letter) (sets : List LearntSet)
+      → AreTogether (slice_set (kept_of_hosts hosts) r after.kept) (letters ++ more) sets → after.kept.own ≡ r
+      → AreSent after.mail (letters ++ more) → AreHostsTogether (slice_set hosts r after) (letters ++ more) sets
+  with_more after more sets together here sent = record {
+    together = subst (λ ss. AreTogether ss (letters ++ more) sets) (sym (set_kept hosts r after)) together;
+    places = set_each (λ s k. k.kept.own ≡ s) hosts r after are.places here;
+    sent =
+        λ s k letter is has.
+        set_each (λ s k. AreSent k.mail (letters ++ more)) hosts r after
+        (λ s k is letter has. Contains-append_left letters more letter (are.sent s k letter is has)) sent s k is letter
+        has;
+  }
+
+  -- where it keeps the same
+  same_more : (after : HostState) (more : List Letter) → after.kept ≡ before.kept
+      → AreTogether (kept_of_hosts hosts) (letters ++ more) learnt → AreSent after.mail (letters ++ more)
+      → AreHostsTogether (slice_set hosts r after) (letters ++ more) learnt
+  same_more after more same together sent =
+      let states : kept_of_hosts hosts ≡ slice_set (kept_of_hosts hosts) r after.kept =
+      sym (ap (slice_set (kept_of_hosts hosts) r) same ∙ set_same (kept_of_hosts hosts) r before.kept at_kept) in
+      with_more after more learnt (subst (λ ss. AreTogether ss (letters ++ more) learnt) states together)
+      (ap (λ (q : ReplicaState). q.own) same ∙ own) sent
+
+  other_on : (after : HostState) → after.kept ≡ before.kept → AreSent after.mail letters
+      → AreHostsTogether (slice_set hosts r after) letters learnt
+  other_on after same sent =
+      subst (λ ls. AreHostsTogether (slice_set hosts r after) ls learnt) (append-nil letters)
+      (same_more after [] same
+      (subst (λ ls. AreTogether (kept_of_hosts hosts) ls learnt) (sym (append-nil letters)) are.together)
+      (λ letter has. Contains-append_left letters [] letter (sent letter has)))
+
+  -- with no letters more, and no sets
+  none_more : (after : HostState) → AreHostsTogether (slice_set hosts r after) letters learnt
+      → AreStillTogether hosts letters learnt r after
+  none_more after still =
+      let sets = subst (λ xs. AreHostsTogether (slice_set hosts r after) letters xs) (sym (append-nil learnt)) still in
+      ([], ([], subst (λ ls. AreHostsTogether (slice_set hosts r after) ls (learnt ++ [])) (sym (append-nil letters))
+      sets))
+
+  quiet_on : (after : HostState) → after.kept ≡ before.kept → AreSent after.mail letters
+      → AreStillTogether hosts letters learnt r after
+  quiet_on after same sent = none_more after (other_on after same sent)
+
+  step_on : CallsKeepTogether → (after : HostState) (heard : Links) (call : WireCall) (given : Given)
+      → IsCallOfSent letters call → IsHostStep before heard call given after
+      → AreHostsTogether (slice_set hosts r after) (letters ++ letters_of heard after.kept given.mail)
+      (learnt ++ learnt_by_host r call given)
+  step_on calls after heard call given sent step =
+      let is = action_of letters r before.kept call given after.kept own sent step.does in
+      let more = letters_of heard after.kept given.mail in
+      with_more after more (learnt ++ learnt_by_host r call given)
+      (subst (λ xs. AreTogether (slice_set (kept_of_hosts hosts) r after.kept) (letters ++ more) (learnt ++ xs))
+      (sym is.learnt)
+      (calls (kept_of_hosts hosts) letters learnt r before.kept after.kept is.action given heard are.together at_kept
+      is.brought is.step)) is.own
+      (posted heard after.kept given.mail before.mail after.mail letters waiting step.mail)
+
+  again_on : RepeatsKeepTogether → (mail : List Outgoing) → IsPostedAgain before mail
+      → AreStillTogether hosts letters learnt r (with_mail before mail)
+  again_on again mail (sent, whole, told, is) =
+      let more = letters_of before.links before.kept (filter (is_owed before.links) sent) in
+      (more, ([], subst (λ xs. AreHostsTogether (slice_set hosts r (with_mail before mail)) (letters ++ more) xs)
+      (sym (append-nil learnt))
+      (same_more (with_mail before mail) more refl
+      (again (kept_of_hosts hosts) letters learnt r before.kept sent before.links are.together at_kept whole told)
+      (subst (λ ms. AreSent ms (letters ++ more)) (sym is) (put_behind before.mail letters more waiting)))))
+
+  -- what is received is of a letter that was sent
+  taken_on : CallsKeepTogether → (after : HostState) (letter : Letter) (nothing : Bool)
+      → IsCallOfSent letters (Receive (letter_message letter)) → IsTaken before letter nothing after
+      → AreStillTogether hosts letters learnt r after
+  taken_on calls after letter true sent (told, is) =
+      quiet_on after (ap (λ (h : HostState). h.kept) is)
+      (told_back (standing_of before.kept letter.parcel.from) before.mail after.mail letters told waiting)
+  taken_on calls after letter false sent (given, step) =
+      let heard = links_by before.links letter in
+      let call = Receive (letter_message letter) in
+      (letters_of heard after.kept given.mail, (learnt_by_host r call given,
+      step_on calls after heard call given sent step))
+
+  read_on : CallsKeepTogether → (after : HostState) (says : Result WireCall LineFault)
+      → ((m : WireMessage) → says ≡ Ok (Receive m) → m.to ≡ r → IsCallOfSent letters (Receive m))
+      → TakesRead before says after → AreStillTogether hosts letters learnt r after
+  read_on calls after (Err fault) may takes = absurd takes
+  read_on calls after (Ok (Submit replica object op)) may takes = absurd takes
+  read_on calls after (Ok (Decide replica commit value)) may takes = absurd takes
+  read_on calls after (Ok (Ask replica object query)) may takes = absurd takes
+  read_on calls after (Ok Tick) may takes = absurd takes
+  read_on calls after (Ok (Known s)) may (here, is) =
+      quiet_on after (ap (λ (h : HostState). h.kept) is)
+      (subst (λ (h : HostState). AreSent h.mail letters) (sym is) waiting)
+  read_on calls after (Ok (Receive m)) may (letter, is, takes) =
+      let to : letter.parcel.to ≡ r =
+      eqb-true letter.parcel.to before.kept.own
+      (and_right (letter.replicas == length before.kept.votes) (letter.parcel.to == before.kept.own) takes.here)
+      ∙ own in
+      taken_on calls after letter (brings_nothing before.kept.view letter)
+      (subst (λ x. IsCallOfSent letters (Receive x)) (sym is)
+      (may m refl (sym (ap (λ (x : WireMessage). x.to) is) ∙ to))) takes.taken
+
+  line_on : CallsKeepTogether → LettersAreReadBack → (after : HostState) (line : List ℕ) → IsLineOfSent letters r line
+      → TakesHostLine before line after → AreStillTogether hosts letters learnt r after
+  line_on calls back after line may takes =
+      read_on calls after (bounded_call_of line)
+      (λ m says to.
+      let named : named_call line ≡ Some (Receive m) =
+      when_short _ (call_of line) (Receive m) says in
+      let of = may m named to in
+      (of.0, of.1, sym (back (letter_message of.0) m of.2.typed (ap named_call (sym of.2.text) ∙ named)))) takes
+
+-- ## What it sends to itself
+
+get_set : (hosts : List HostState) (r : ℕ) (h k : HostState) → slice_get hosts r ≡ Some h
+    → slice_get (slice_set hosts r k) r ≡ Some k
+get_set [] r h k e = absurd (none-some h e)
+get_set (x ∷ xs) zero h k e = refl
+get_set (x ∷ xs) (suc r) h k e = get_set xs r h k e
+
+set_twice : (hosts : List HostState) (r : ℕ) (h k : HostState)
+    → slice_set (slice_set hosts r h) r k ≡ slice_set hosts r k
+set_twice [] r h k = refl
+set_twice (x ∷ xs) zero h k = refl
+set_twice (x ∷ xs) (suc r) h k = ap (λ hs. x ∷ hs) (set_twice xs r h k)
+
+own_on : CallsKeepTogether → (hosts : List HostState) (letters : List Letter) (learnt : List LearntSet) (r : ℕ)
+    (before after : HostState) (brought : Bool) (o : Option Letter) → AreHostsTogether hosts letters learnt
+    → slice_get hosts r ≡ Some before → own_first before.kept before.mail ≡ o → BringsOwn before o brought after
+    → AreStillTogether hosts letters learnt r after
+own_on calls hosts letters learnt r before after brought None are at is (none, same) =
+    quiet_on hosts letters learnt r before are at after (ap (λ (h : HostState). h.kept) same)
+    (subst (λ (h : HostState). AreSent h.mail letters) (sym same) (waiting hosts letters learnt r before are at))
+own_on calls hosts letters learnt r before after brought (Some letter) are at is (first, how) =
+    let left = with_mail before (drop 1 before.mail) in
+    let sent = waiting hosts letters learnt r before are at in
+    let fewer : AreSent left.mail letters =
+    λ l has. sent l (first_gone before.mail (out.Letter l) has) in
+    elim how [
+      | inl takes ↦
+        let still = other_on hosts letters learnt r before are at left refl fewer in
+        let on = taken_on (slice_set hosts r left) letters learnt r left still (get_set hosts r before left at) calls
+        after letter (brings_nothing left.kept.view letter)
+        (letter, sent letter (own_waits before.kept before.mail letter is), refl) takes.taken in
+        (on.0, (on.1.0, subst (λ hs. AreHostsTogether hs (letters ++ on.0) (learnt ++ on.1.0))
+        (set_twice hosts r left after) on.1.1))
+      | inr lost ↦
+        quiet_on hosts letters learnt r before are at after (ap (λ (h : HostState). h.kept) lost)
+        (subst (λ (h : HostState). AreSent h.mail letters) (sym lost) fewer)
+    ]
+
+-- ## When nothing has happened
+
+kept_of_new : (states : List ReplicaState) → kept_of_hosts (map host_of states) ≡ states
+kept_of_new [] = refl
+kept_of_new (q ∷ states) = ap (λ qs. q ∷ qs) (kept_of_new states)
+
+get_from : {A B : Type 0} (f : A → B) (xs : List A) (i : ℕ) (y : B) → slice_get (map f xs) i ≡ Some y
+    → (x : A) × (slice_get xs i ≡ Some x) × (f x ≡ y)
+get_from f [] i y e = absurd (none-some y e)
+get_from f (x ∷ xs) zero y e = (x, refl, same_Some (f x) y e)
+get_from f (x ∷ xs) (suc i) y e = get_from f xs i y e
+
+in_range : (first many i x : ℕ) → slice_get (range_with_len first many) i ≡ Some x → x ≡ first + i
+in_range first zero i x e = absurd (none-some x e)
+in_range first (suc many) zero x e =
+    let here : first ≡ first + 0 = omega arith in sym (same_Some first x e) ∙ here
+in_range first (suc many) (suc i) x e =
+    let there : first + 1 + i ≡ first + suc i = omega arith in in_range (first + 1) many i x e ∙ there
+
+pub new_ones : NewReplicasAreTogether → NewHostsAreTogether
+new_ones new c config = record {
+  together = subst (λ ss. AreTogether ss [] []) (sym (kept_of_new (replica_states_at_start c))) (new c config);
+  places = λ r h at.
+      let f : ℕ → ReplicaState = λ own. start (votes_of c.votes) own c.cap c.commits in
+      let host = get_from host_of (replica_states_at_start c) r h at in
+      let state = get_from f (group (length (votes_of c.votes))) r host.0 host.1 in
+      let plain : 0 + r ≡ r = omega arith in
+      ap (λ (x : HostState). x.kept.own) (sym host.2) ∙ ap (λ (q : ReplicaState). q.own) (sym state.2)
+      ∙ in_range 0 (length (votes_of c.votes)) r state.0 state.1 ∙ plain;
+  sent = λ r h letter at has.
+      let host = get_from host_of (replica_states_at_start c) r h at in
+      absurd (Contains-none (out.Letter letter)
+      (subst (λ (x : HostState). Contains x.mail (out.Letter letter)) (sym host.2) has));
+}
+
+-- ## As they are stated
+
+pub steps : CallsKeepTogether → StepsKeepHostsTogether
+steps calls hosts letters learnt r before after heard call given are at sent step =
+    step_on hosts letters learnt r before are at calls after heard call given sent step
+
+pub lines : CallsKeepTogether → LettersAreReadBack → LinesKeepHostsTogether
+lines calls back hosts letters learnt r before after line are at may takes =
+    line_on hosts letters learnt r before are at calls back after line may takes
+
+pub own_mail : CallsKeepTogether → OwnMailKeepsHostsTogether
+own_mail calls hosts letters learnt r before after brought are at is =
+    own_on calls hosts letters learnt r before after brought (own_first before.kept before.mail) are at refl is
+
+pub repeats : RepeatsKeepTogether → RepeatsKeepHostsTogether
+repeats again hosts letters learnt r before mail are at is =
+    again_on hosts letters learnt r before are at again mail is
+
+pub others : OthersKeepHostsTogether
+others hosts letters learnt r before after are at same waits =
+    other_on hosts letters learnt r before are at after same
+    (λ letter has. are.sent r before letter at (waits letter has))
+
+pub host_views : ViewsTogetherAreComparable → HostViewsAreComparable
+host_views views hosts letters learnt a b are has_a has_b =
+    views (kept_of_hosts hosts) letters learnt a.kept b.kept are.together
+    (mapped_has (λ (h : HostState). h.kept) hosts a has_a) (mapped_has (λ (h : HostState). h.kept) hosts b has_b)
+
+pub host_commits : CommitsTogetherAgree → HostCommitsAgree
+host_commits agree hosts letters learnt a b k o p are has_a has_b =
+    agree (kept_of_hosts hosts) letters learnt a.kept b.kept k o p are.together
+    (mapped_has (λ (h : HostState). h.kept) hosts a has_a) (mapped_has (λ (h : HostState). h.kept) hosts b has_b)

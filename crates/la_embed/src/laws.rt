@@ -1,0 +1,40 @@
+// What holds of hosts, over whatever transport, and of what is handed on: laws that no code runs.
+ghost use Rattle.la_embed.specs.Learnt.{EachIsHandedOnce};
+ghost use Rattle.la_embed.specs.Together.{NewHostsAreTogether, StepsKeepHostsTogether, LinesKeepHostsTogether};
+ghost use Rattle.la_embed.specs.Together.{OwnMailKeepsHostsTogether, RepeatsKeepHostsTogether};
+ghost use Rattle.la_embed.specs.Together.{OthersKeepHostsTogether, HostViewsAreComparable, HostCommitsAgree};
+
+/// Hosts of a group are together, and stay so: over each step of one of them, whatever line it takes, be it late,
+/// again, in any order or never, what it sends to itself, and what it sends again. Whatever is pulled from one of them
+/// was sent by it. Of a host whose mail was lost for want of memory this holds too, as if a transport had lost it.
+pub fn hosts_stay_together()
+    ensures new { NewHostsAreTogether }
+    ensures calls { StepsKeepHostsTogether }
+    ensures lines { LinesKeepHostsTogether }
+    ensures own { OwnMailKeepsHostsTogether }
+    ensures again { RepeatsKeepHostsTogether }
+    ensures other { OthersKeepHostsTogether }
+{
+    // hints to the prover: of replicas, and of lines
+    la_world::live::new_replicas_are_together();
+    la_world::live::replicas_stay_together();
+    la_wire::laws::letters_are_read_back_or_not();
+}
+
+/// Of hosts that are together any two views are comparable; and where one commits a value in an adopt-commit object,
+/// all that return from that return it.
+pub fn hosts_together_keep_promises()
+    ensures views { HostViewsAreComparable }
+    ensures commits { HostCommitsAgree }
+{
+    // a hint to the prover: of replicas
+    la_world::live::replicas_together_keep_promises();
+}
+
+/// Where a host hands on what it learnt, each update as the one that comes next, until none is left of its view, it has
+/// handed on of each replica just its updates in the view, each once, in the order of their numbers, however the view
+/// grew meanwhile: so hosts whose views are equal have handed on the same. Between
+/// [`Host::next_learnt`](crate::Host::next_learnt) and [`Host::handed_on`](crate::Host::handed_on) the view is to stay.
+pub fn each_is_handed_once()
+    ensures { EachIsHandedOnce }
+{}
