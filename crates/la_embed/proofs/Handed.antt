@@ -25,8 +25,8 @@ same_next handed view a (Some b) is other = elim (cases_lt a.replica b.replica) 
   | inl lt ↦ absurd (omega (arith, other.first a.replica lt, is.number, is.there))
   | inr le ↦ elim (cases_eq b.replica a.replica) [
     | inl same ↦
-      let number : b.number ≡ a.number = other.number ∙ ap (λ r. count_in handed r + 1) same ∙ sym is.number in
-      λ k. Some (record { replica = same k; number = number k })
+        let number : b.number ≡ a.number = other.number ∙ ap (λ r. count_in handed r + 1) same ∙ sym is.number in
+        λ k. Some (record { replica = same k; number = number k })
     | inr ne ↦ elim (cases_lt b.replica a.replica) [
       | inl lt ↦ absurd (omega (arith, is.first b.replica lt, other.number, other.there))
       | inr ge ↦ absurd (ne (omega (arith, le, ge)))
@@ -51,8 +51,8 @@ count_elsewhere : (handed : Counts) (id : UpdateId) (r : ℕ) → (id.replica �
     → count_in (handed_with handed id) r ≡ count_in handed r
 count_elsewhere handed id r ne = elim (cases_lt r 8) [
   | inl lt ↦
-    count_in-from_counts (λ q. cond (q == id.replica) id.number (count_in handed q)) r lt
-    ∙ ap (λ b. cond b id.number (count_in handed r)) (ne_eqb r id.replica (λ e. ne (sym e)))
+      count_in-from_counts (λ q. cond (q == id.replica) id.number (count_in handed q)) r lt
+      ∙ ap (λ b. cond b id.number (count_in handed r)) (ne_eqb r id.replica (λ e. ne (sym e)))
   | inr past ↦ count_in-past (handed_with handed id) r past ∙ sym (count_in-past handed r past)
 ]
 
@@ -95,7 +95,7 @@ module _ (before after : Counts) (h : Handing) (handings : List Handing) (view :
   of_each : (r : ℕ) → IsRest after handings view r → IsRest before (h ∷ handings) view r
   of_each r rest = elim (cases_eq id.replica r) [
     | inl same ↦
-      subst (IsRest before (h ∷ handings) view) same (of_its_own (subst (IsRest after handings view) (sym same) rest))
+        subst (IsRest before (h ∷ handings) view) same (of_its_own (subst (IsRest after handings view) (sym same) rest))
     | inr ne ↦ of_another r ne rest
   ]
 

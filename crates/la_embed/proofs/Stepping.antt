@@ -16,7 +16,7 @@ use Rattle.la_replica.specs.ReplicaState.{ReplicaState, sender_of, after_step, s
 use Rattle.la_replica.specs.Steps as steps
 use Rattle.la_replica.specs.Whole.{Message, Out}
 use Rattle.la_node.specs.declared.link.Letter.{Letter}
-use Rattle.la_node.specs.Accepting.{accepts, is_for_host, takes_message, unwraps, parcel_call}
+use Rattle.la_node.specs.Accepting.{accepts, is_for, takes_message, unwraps, parcel_call}
 use Rattle.la_node.specs.Calls.{NodeCall, Submitted, Proposed, Received}
 use Rattle.la_node.specs.SecondVotes.{Submission}
 use Rattle.la_node.specs.Steps.{Given, node_step, step_given, of_submission, of_receipt}
@@ -64,7 +64,7 @@ unfolding accepts
 to_own q m e =
     eqb-true m.to q.own
     (and_right (nat_lt m.from (length q.votes)) (m.to == q.own)
-    (and_left (is_for_host q m) (takes_message (slice_get q.instances m.instance) m) e))
+    (and_left (is_for q m) (takes_message (slice_get q.instances m.instance) m) e))
 
 -- ## A step keeps its replica's number
 
@@ -120,9 +120,12 @@ alike_read (content.Tell d) = (refl, refl)
 
 of_letters : (letters : List Letter) (m : WireMessage) → IsCallOfSent letters (Receive m) → IsOfLetters (parcel_of m)
     letters
-of_letters letters m (letter, has, is) =
-    (letter, has, subst (λ x. AreAlikeParcels (parcel_of x) letter.parcel) is
-    (record { instance = refl; from = refl; to = refl; ballot = refl; content = alike_read letter.parcel.content }))
+of_letters letters m (letter, has, is) = (
+  letter,
+  has,
+  subst (λ x. AreAlikeParcels (parcel_of x) letter.parcel) is
+      (record { instance = refl; from = refl; to = refl; ballot = refl; content = alike_read letter.parcel.content }),
+)
 
 module _ (letters : List Letter) (r : ℕ) (q : ReplicaState) (own : q.own ≡ r) where
   -- an action of the node stands for this call, and what it may learn by it

@@ -127,11 +127,11 @@ put_behind : (before : List Outgoing) (letters more : List Letter) → AreSent b
     → AreSent (with_letters before more) (letters ++ more)
 put_behind before letters more sent letter has = elim (Contains-append_cases before (map out.Letter more) (out.Letter
     letter) has) [
-  | inl old ↦ Contains-append_left letters more letter (sent letter old)
-  | inr new ↦
-    let from = mapped_from out.Letter more (out.Letter letter) new in
-    Contains-append_right letters more letter (subst (Contains more) (letter_same from.0 letter from.2) from.1)
-]
+      | inl old ↦ Contains-append_left letters more letter (sent letter old)
+      | inr new ↦
+          let from = mapped_from out.Letter more (out.Letter letter) new in
+          Contains-append_right letters more letter (subst (Contains more) (letter_same from.0 letter from.2) from.1)
+    ]
 
 posted : (heard : Links) (made : ReplicaState) (sent : List code.Message) (before mail : List Outgoing)
     (letters : List Letter) → AreSent before letters → IsPosted heard made sent before mail
@@ -208,9 +208,15 @@ module _ (hosts : List HostState) (letters : List Letter) (learnt : List LearntS
   none_more : (after : HostState) → AreHostsTogether (slice_set hosts r after) letters learnt
       → AreStillTogether hosts letters learnt r after
   none_more after still =
-      let sets = subst (λ xs. AreHostsTogether (slice_set hosts r after) letters xs) (sym (append-nil learnt)) still in
-      ([], ([], subst (λ ls. AreHostsTogether (slice_set hosts r after) ls (learnt ++ [])) (sym (append-nil letters))
-      sets))
+      let sets = subst (λ xs. AreHostsTogether (slice_set hosts r after) letters xs)
+      (sym (append-nil learnt)) still in (
+        [],
+        (
+          [],
+          subst (λ ls. AreHostsTogether (slice_set hosts r after) ls (learnt ++ [])) (sym (append-nil letters))
+              sets,
+        ),
+      )
 
   quiet_on : (after : HostState) → after.kept ≡ before.kept → AreSent after.mail letters
       → AreStillTogether hosts letters learnt r after
@@ -233,12 +239,18 @@ module _ (hosts : List HostState) (letters : List Letter) (learnt : List LearntS
   again_on : RepeatsKeepTogether → (mail : List Outgoing) → IsPostedAgain before mail
       → AreStillTogether hosts letters learnt r (with_mail before mail)
   again_on again mail (sent, whole, told, is) =
-      let more = letters_of before.links before.kept (filter (is_owed before.links) sent) in
-      (more, ([], subst (λ xs. AreHostsTogether (slice_set hosts r (with_mail before mail)) (letters ++ more) xs)
-      (sym (append-nil learnt))
-      (same_more (with_mail before mail) more refl
-      (again (kept_of_hosts hosts) letters learnt r before.kept sent before.links are.together at_kept whole told)
-      (subst (λ ms. AreSent ms (letters ++ more)) (sym is) (put_behind before.mail letters more waiting)))))
+      let more = letters_of before.links before.kept (filter (is_owed before.links) sent) in (
+        more,
+        (
+          [],
+          subst (λ xs. AreHostsTogether (slice_set hosts r (with_mail before mail)) (letters ++ more) xs)
+              (sym (append-nil learnt))
+              (same_more (with_mail before mail) more refl
+              (again (kept_of_hosts hosts) letters learnt r before.kept sent before.links are.together at_kept whole
+              told)
+              (subst (λ ms. AreSent ms (letters ++ more)) (sym is) (put_behind before.mail letters more waiting))),
+        ),
+      )
 
   -- what is received is of a letter that was sent
   taken_on : CallsKeepTogether → (after : HostState) (letter : Letter) (nothing : Bool)
@@ -249,9 +261,13 @@ module _ (hosts : List HostState) (letters : List Letter) (learnt : List LearntS
       (told_back (standing_of before.kept letter.parcel.from) before.mail after.mail letters told waiting)
   taken_on calls after letter false sent (given, step) =
       let heard = links_by before.links letter in
-      let call = Receive (letter_message letter) in
-      (letters_of heard after.kept given.mail, (learnt_by_host r call given,
-      step_on calls after heard call given sent step))
+      let call = Receive (letter_message letter) in (
+        letters_of heard after.kept given.mail,
+        (
+          learnt_by_host r call given,
+          step_on calls after heard call given sent step,
+        ),
+      )
 
   read_on : CallsKeepTogether → (after : HostState) (says : Result WireCall LineFault)
       → ((m : WireMessage) → says ≡ Ok (Receive m) → m.to ≡ r → IsCallOfSent letters (Receive m))
@@ -311,15 +327,20 @@ own_on calls hosts letters learnt r before after brought (Some letter) are at is
     λ l has. sent l (first_gone before.mail (out.Letter l) has) in
     elim how [
       | inl takes ↦
-        let still = other_on hosts letters learnt r before are at left refl fewer in
-        let on = taken_on (slice_set hosts r left) letters learnt r left still (get_set hosts r before left at) calls
-        after letter (brings_nothing left.kept.view letter)
-        (letter, sent letter (own_waits before.kept before.mail letter is), refl) takes.taken in
-        (on.0, (on.1.0, subst (λ hs. AreHostsTogether hs (letters ++ on.0) (learnt ++ on.1.0))
-        (set_twice hosts r left after) on.1.1))
+          let still = other_on hosts letters learnt r before are at left refl fewer in
+          let on = taken_on (slice_set hosts r left) letters learnt r left still (get_set hosts r before left at) calls
+          after letter (brings_nothing left.kept.view letter)
+          (letter, sent letter (own_waits before.kept before.mail letter is), refl) takes.taken in (
+            on.0,
+            (
+              on.1.0,
+              subst (λ hs. AreHostsTogether hs (letters ++ on.0) (learnt ++ on.1.0))
+                  (set_twice hosts r left after) on.1.1,
+            ),
+          )
       | inr lost ↦
-        quiet_on hosts letters learnt r before are at after (ap (λ (h : HostState). h.kept) lost)
-        (subst (λ (h : HostState). AreSent h.mail letters) (sym lost) fewer)
+          quiet_on hosts letters learnt r before are at after (ap (λ (h : HostState). h.kept) lost)
+          (subst (λ (h : HostState). AreSent h.mail letters) (sym lost) fewer)
     ]
 
 -- ## When nothing has happened
