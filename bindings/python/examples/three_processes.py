@@ -51,6 +51,7 @@ class Host:
         self.came: asyncio.Queue[bytes] = asyncio.Queue(WAITING)
         self.queues: list[asyncio.Queue[bytes]] = [asyncio.Queue(WAITING) for _ in range(NODES)]
         self.began, self.told_own, self.told_all = time.monotonic(), False, False
+        self.ended = False
 
     async def read_lines(self, reader: asyncio.StreamReader, writer: asyncio.StreamWriter) -> None:
         """Hands each line that comes over a connection to the node, and waits where it is behind."""
@@ -94,7 +95,7 @@ class Host:
 
     async def run(self) -> None:
         timer = time.monotonic() + AGAIN
-        while True:
+        while not self.ended:
             self.submit_next()
             self.send_mail()
             self.tell()
@@ -120,6 +121,7 @@ async def run_node(own: int) -> None:
     tasks += [asyncio.create_task(send_lines(int(port), queue)) for port, queue in zip(ports, host.queues)]
     ended: asyncio.Future[Any] = loop.run_in_executor(None, sys.stdin.readline)
     await asyncio.wait([ended, *tasks], return_when=asyncio.FIRST_COMPLETED)
+    host.ended = True  # `wait_for` may pass over what is cancelled
     for task in tasks:
         task.cancel()
     for result in await asyncio.gather(*tasks, return_exceptions=True):
