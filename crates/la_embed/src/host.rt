@@ -336,8 +336,8 @@ impl<B: Replicated> Host<B> {
     }
 
     /// The update of the view that was not yet handed on and comes next: each is handed on once, of each replica in
-    /// the order of numbers. `None` once all of the view were. It is the same until [`Host::handed_on`]. The cost is
-    /// logarithmic.
+    /// the order of numbers. `None` once all of the view were. It is the same until
+    /// [`Host::handed_on`], or until the view grows, so nothing is to be received in between. The cost is logarithmic.
     pub fn next_learnt(&self) -> Option<&Update>
         ensures { IsNextLearnt self.now.handed self.now.kept.view (option_copied result) }
     {
