@@ -2,3 +2,4 @@ mod Links
 mod EditBytes
 mod IdSets
 mod InsertCopies
+mod Latest

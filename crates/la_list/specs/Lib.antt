@@ -5,3 +5,4 @@ pub mod Refusals
 pub mod Lists
 pub mod Chains
 pub mod ListLaws
+pub mod LatestLaw

@@ -29,7 +29,7 @@ swap_tests true true x y z apart = absurd (apart refl refl)
 swap_tests true false x y z apart = refl
 swap_tests false b x y z apart = refl
 
-two_moments : (m : InsertMap) (one two : Moment) (x y : Insertion) → one ≢ two
+pub two_moments : (m : InsertMap) (one two : Moment) (x y : Insertion) → one ≢ two
     → map.insert (map.insert m one x) two y ≡ map.insert (map.insert m two y) one x
 two_moments m one two x y ne = map.same_map moment_total moment_tied _ _ (λ q.
     let is_one = eq_by_cmp moment_order q one in

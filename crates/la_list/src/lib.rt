@@ -8,6 +8,7 @@ mod bytes;
 mod chain;
 mod ids;
 mod inserts;
+pub mod laws;
 mod list;
 mod op;
 

@@ -34,9 +34,9 @@ pub enum ListOp {
 /// The operation that puts an element right behind the one with an id, or at the head. The new
 /// element's id is that of the update by which it is submitted.
 ///
-/// `stamp` is how many updates the view has by which its maker acts, the sum of `view.counts()`:
-/// so it is above the stamps of all that he saw, and what he puts in stands right where he puts it,
-/// before all that stood there. Of elements that are put in at one place at the same time, that
+/// A good `stamp` is how many updates the view has by which its maker acts, `view.len()`: so it is
+/// above the stamps of all that he saw, and what he puts in stands right where he puts it, before
+/// all that stood there. Of elements that are put in at one place at the same time, that
 /// with the larger stamp, and then that with the larger id, stands first.
 ///
 /// `TooLong` comes exactly above [`ELEMENT_BYTES`] bytes.
