@@ -16,7 +16,7 @@ use la_own::own_op;
 use la_set::{Op, Tags};
 use std::alloc::Global;
 
-// SubmitsFor an operation.
+// Submits an operation.
 fn submit(handle: &mut Handle, object: u16, op: Op, number: &mut u32) -> u8
     ensures { SubmitsFor handle.old.host.host object op number.old result number.new handle.new.host.host }
 {
