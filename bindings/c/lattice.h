@@ -191,43 +191,43 @@ void lattice_node_free(lattice_node handle);
  */
 uint8_t lattice_add(lattice_node *handle, uint16_t object, uint8_t kind);
 
-/* SubmitsFor an addition to a counter, and answers the update's number. What is to be sent of it
- * waits then.
+/* Submits an addition to a counter, and answers the update's number. What is to be sent of it waits
+ * then.
  *
  * LATTICE_FULL comes where the node has submitted its cap, and else LATTICE_MEMORY or
  * LATTICE_BALLOTS_SPENT; so it is of each call that submits.
  */
 uint8_t lattice_inc(lattice_node *handle, uint16_t object, uint32_t by, uint32_t *number);
 
-/* SubmitsFor a subtraction from a counter. */
+/* Submits a subtraction from a counter. */
 uint8_t lattice_dec(lattice_node *handle, uint16_t object, uint32_t by, uint32_t *number);
 
-/* SubmitsFor that a max register is at least this value. */
+/* Submits that a max register is at least this value. */
 uint8_t lattice_raise(lattice_node *handle, uint16_t object, uint64_t to, uint32_t *number);
 
-/* SubmitsFor that an element is put into an observed-remove set. */
+/* Submits that an element is put into an observed-remove set. */
 uint8_t lattice_put(lattice_node *handle, uint16_t object, uint64_t element, uint32_t *number);
 
-/* SubmitsFor that an element is taken out of an observed-remove set, as far as the view has it:
- * what was put in at the same time elsewhere stays.
+/* Submits that an element is taken out of an observed-remove set, as far as the view has it: what
+ * was put in at the same time elsewhere stays.
  *
  * LATTICE_NO_OBJECT comes where there is no such object, LATTICE_TOO_MANY_TAGS where over 64 puts
  * of the element are seen; else it is as of each call that submits.
  */
 uint8_t lattice_remove(lattice_node *handle, uint16_t object, uint64_t element, uint32_t *number);
 
-/* SubmitsFor a mark, which changes no object. */
+/* Submits a mark, which changes no object. */
 uint8_t lattice_mark(lattice_node *handle, uint16_t object, uint32_t *number);
 
-/* SubmitsFor an operation of one's own: up to 248 bytes, which no object here takes.
- * LATTICE_TOO_LARGE comes exactly above that.
+/* Submits an operation of one's own: up to 248 bytes, which no object here takes. LATTICE_TOO_LARGE
+ * comes exactly above that.
  */
 uint8_t lattice_own(lattice_node *handle, uint16_t object, const uint8_t *bytes, size_t bytes_len,
     uint32_t *number);
 
-/* SubmitsFor an operation as the node's update with this number, so that it counts once, however
- * often it is asked for. The operation is of a kind as `lattice_next_learnt` tells it, but of kinds
- * 5 and 7: of kinds 1 to 4 with this value, of kind 8 with these bytes of one's own.
+/* Submits an operation as the node's update with this number, so that it counts once, however often
+ * it is asked for. The operation is of a kind as `lattice_next_learnt` tells it, but of kinds 5 and
+ * 7: of kinds 1 to 4 with this value, of kind 8 with these bytes of one's own.
  *
  * LATTICE_BAD_KIND comes for any other kind; LATTICE_TOO_LARGE where an amount has more than 32
  * bits or there are over 248 bytes; LATTICE_STALE where another submission has this number;

@@ -159,30 +159,30 @@ CALLS = [
     #
     # BAD_KIND comes for any other kind, TAKEN where the number has an object, and else MEMORY.
     ("lattice_add", c_uint8, [POINTER(Node), c_uint16, c_uint8]),
-    # SubmitsFor an addition to a counter, and answers the update's number. What is to be sent of it
+    # Submits an addition to a counter, and answers the update's number. What is to be sent of it
     # waits then.
     #
     # FULL comes where the node has submitted its cap, and else MEMORY or BALLOTS_SPENT; so it is of
     # each call that submits.
     ("lattice_inc", c_uint8, [POINTER(Node), c_uint16, c_uint32, POINTER(c_uint32)]),
-    # SubmitsFor a subtraction from a counter.
+    # Submits a subtraction from a counter.
     ("lattice_dec", c_uint8, [POINTER(Node), c_uint16, c_uint32, POINTER(c_uint32)]),
-    # SubmitsFor that a max register is at least this value.
+    # Submits that a max register is at least this value.
     ("lattice_raise", c_uint8, [POINTER(Node), c_uint16, c_uint64, POINTER(c_uint32)]),
-    # SubmitsFor that an element is put into an observed-remove set.
+    # Submits that an element is put into an observed-remove set.
     ("lattice_put", c_uint8, [POINTER(Node), c_uint16, c_uint64, POINTER(c_uint32)]),
-    # SubmitsFor that an element is taken out of an observed-remove set, as far as the view has it:
+    # Submits that an element is taken out of an observed-remove set, as far as the view has it:
     # what was put in at the same time elsewhere stays.
     #
     # NO_OBJECT comes where there is no such object, TOO_MANY_TAGS where over 64 puts of the element
     # are seen; else it is as of each call that submits.
     ("lattice_remove", c_uint8, [POINTER(Node), c_uint16, c_uint64, POINTER(c_uint32)]),
-    # SubmitsFor a mark, which changes no object.
+    # Submits a mark, which changes no object.
     ("lattice_mark", c_uint8, [POINTER(Node), c_uint16, POINTER(c_uint32)]),
-    # SubmitsFor an operation of one's own: up to 248 bytes, which no object here takes. TOO_LARGE
+    # Submits an operation of one's own: up to 248 bytes, which no object here takes. TOO_LARGE
     # comes exactly above that.
     ("lattice_own", c_uint8, [POINTER(Node), c_uint16, POINTER(c_uint8), c_size_t, POINTER(c_uint32)]),
-    # SubmitsFor an operation as the node's update with this number, so that it counts once, however
+    # Submits an operation as the node's update with this number, so that it counts once, however
     # often it is asked for. The operation is of a kind as `lattice_next_learnt` tells it, but of
     # kinds 5 and 7: of kinds 1 to 4 with this value, of kind 8 with these bytes of one's own.
     #

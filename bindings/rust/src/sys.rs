@@ -179,20 +179,20 @@ unsafe extern "C" {
     /// [`MEMORY`].
     pub fn lattice_add(handle: *mut lattice_node, object: u16, kind: u8) -> u8;
 
-    /// SubmitsFor an addition to a counter, and answers the update's number. What is to be sent of
-    /// it waits then.
+    /// Submits an addition to a counter, and answers the update's number. What is to be sent of it
+    /// waits then.
     ///
     /// [`FULL`] comes where the node has submitted its cap, and else [`MEMORY`] or
     /// [`BALLOTS_SPENT`]; so it is of each call that submits.
     pub fn lattice_inc(handle: *mut lattice_node, object: u16, by: u32, number: *mut u32) -> u8;
 
-    /// SubmitsFor a subtraction from a counter.
+    /// Submits a subtraction from a counter.
     pub fn lattice_dec(handle: *mut lattice_node, object: u16, by: u32, number: *mut u32) -> u8;
 
-    /// SubmitsFor that a max register is at least this value.
+    /// Submits that a max register is at least this value.
     pub fn lattice_raise(handle: *mut lattice_node, object: u16, to: u64, number: *mut u32) -> u8;
 
-    /// SubmitsFor that an element is put into an observed-remove set.
+    /// Submits that an element is put into an observed-remove set.
     pub fn lattice_put(
         handle: *mut lattice_node,
         object: u16,
@@ -200,8 +200,8 @@ unsafe extern "C" {
         number: *mut u32,
     ) -> u8;
 
-    /// SubmitsFor that an element is taken out of an observed-remove set, as far as the view has
-    /// it: what was put in at the same time elsewhere stays.
+    /// Submits that an element is taken out of an observed-remove set, as far as the view has it:
+    /// what was put in at the same time elsewhere stays.
     ///
     /// [`NO_OBJECT`] comes where there is no such object, [`TOO_MANY_TAGS`] where over 64 puts of
     /// the element are seen; else it is as of each call that submits.
@@ -212,10 +212,10 @@ unsafe extern "C" {
         number: *mut u32,
     ) -> u8;
 
-    /// SubmitsFor a mark, which changes no object.
+    /// Submits a mark, which changes no object.
     pub fn lattice_mark(handle: *mut lattice_node, object: u16, number: *mut u32) -> u8;
 
-    /// SubmitsFor an operation of one's own: up to 248 bytes, which no object here takes.
+    /// Submits an operation of one's own: up to 248 bytes, which no object here takes.
     /// [`TOO_LARGE`] comes exactly above that.
     pub fn lattice_own(
         handle: *mut lattice_node,
@@ -225,10 +225,9 @@ unsafe extern "C" {
         number: *mut u32,
     ) -> u8;
 
-    /// SubmitsFor an operation as the node's update with this number, so that it counts once,
-    /// however often it is asked for. The operation is of a kind as `lattice_next_learnt` tells it,
-    /// but of kinds 5 and 7: of kinds 1 to 4 with this value, of kind 8 with these bytes of one's
-    /// own.
+    /// Submits an operation as the node's update with this number, so that it counts once, however
+    /// often it is asked for. The operation is of a kind as `lattice_next_learnt` tells it, but of
+    /// kinds 5 and 7: of kinds 1 to 4 with this value, of kind 8 with these bytes of one's own.
     ///
     /// [`BAD_KIND`] comes for any other kind; [`TOO_LARGE`] where an amount has more than 32 bits
     /// or there are over 248 bytes; [`STALE`] where another submission has this number; [`AHEAD`]

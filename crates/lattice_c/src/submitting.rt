@@ -16,7 +16,7 @@ use la_own::own_op;
 use la_set::{Op, Tags};
 use std::alloc::Global;
 
-// SubmitsFor an operation.
+// Submits an operation.
 fn submit(handle: &mut Handle, object: u16, op: Op, number: &mut u32) -> u8
     ensures { SubmitsFor handle.old.host.host object op number.old result number.new handle.new.host.host }
 {
@@ -29,7 +29,7 @@ fn submit(handle: &mut Handle, object: u16, op: Op, number: &mut u32) -> u8
     }
 }
 
-/// SubmitsFor an addition to a counter, and answers the update's number. What is to be sent of it waits then.
+/// Submits an addition to a counter, and answers the update's number. What is to be sent of it waits then.
 ///
 /// `FULL` comes where the node has submitted its cap, and else `MEMORY` or `BALLOTS_SPENT`; so it is of each call that
 /// submits.
@@ -40,7 +40,7 @@ pub extern "C" fn lattice_inc(handle: &mut Handle, object: u16, by: u32, number:
     submit(handle, object, Op::Inc(by), number)
 }
 
-/// SubmitsFor a subtraction from a counter.
+/// Submits a subtraction from a counter.
 #[unsafe(no_mangle)]
 pub extern "C" fn lattice_dec(handle: &mut Handle, object: u16, by: u32, number: &mut u32) -> u8
     ensures { SubmitsFor handle.old.host.host object (Dec by) number.old result number.new handle.new.host.host }
@@ -48,7 +48,7 @@ pub extern "C" fn lattice_dec(handle: &mut Handle, object: u16, by: u32, number:
     submit(handle, object, Op::Dec(by), number)
 }
 
-/// SubmitsFor that a max register is at least this value.
+/// Submits that a max register is at least this value.
 #[unsafe(no_mangle)]
 pub extern "C" fn lattice_raise(handle: &mut Handle, object: u16, to: u64, number: &mut u32) -> u8
     ensures { SubmitsFor handle.old.host.host object (Raise to) number.old result number.new handle.new.host.host }
@@ -56,7 +56,7 @@ pub extern "C" fn lattice_raise(handle: &mut Handle, object: u16, to: u64, numbe
     submit(handle, object, Op::Raise(to), number)
 }
 
-/// SubmitsFor that an element is put into an observed-remove set.
+/// Submits that an element is put into an observed-remove set.
 #[unsafe(no_mangle)]
 pub extern "C" fn lattice_put(
     handle: &mut Handle,
@@ -69,7 +69,7 @@ pub extern "C" fn lattice_put(
     submit(handle, object, Op::Put(element), number)
 }
 
-/// SubmitsFor a mark, which changes no object.
+/// Submits a mark, which changes no object.
 #[unsafe(no_mangle)]
 pub extern "C" fn lattice_mark(handle: &mut Handle, object: u16, number: &mut u32) -> u8
     ensures { SubmitsFor handle.old.host.host object Mark number.old result number.new handle.new.host.host }
@@ -77,7 +77,7 @@ pub extern "C" fn lattice_mark(handle: &mut Handle, object: u16, number: &mut u3
     submit(handle, object, Op::Mark, number)
 }
 
-/// SubmitsFor an operation of one's own: up to 248 bytes, which no object here takes. `TOO_LARGE` comes exactly above that.
+/// Submits an operation of one's own: up to 248 bytes, which no object here takes. `TOO_LARGE` comes exactly above that.
 #[unsafe(no_mangle)]
 pub extern "C" fn lattice_own(
     handle: &mut Handle,
@@ -123,7 +123,7 @@ fn op_told(alloc: Global, kind: u8, value: u64, bytes: &[u8]) -> Result<Op, u8>
     }
 }
 
-/// SubmitsFor an operation as the node's update with this number, so that it counts once, however often it is asked for.
+/// Submits an operation as the node's update with this number, so that it counts once, however often it is asked for.
 /// The operation is of a kind as `lattice_next_learnt` tells it, but of kinds 5 and 7: of kinds 1 to 4 with this value,
 /// of kind 8 with these bytes of one's own.
 ///
@@ -162,7 +162,7 @@ fn observed(handle: &mut Handle, object: u16, element: u64) -> Result<Tags, Shel
     handle.inner().host.observed(object, element)
 }
 
-/// SubmitsFor that an element is taken out of an observed-remove set, as far as the view has it: what was put in at the
+/// Submits that an element is taken out of an observed-remove set, as far as the view has it: what was put in at the
 /// same time elsewhere stays.
 ///
 /// `NO_OBJECT` comes where there is no such object, `TOO_MANY_TAGS` where over 64 puts of the element are seen; else it
