@@ -14,6 +14,7 @@ use Rattle.la_object.specs.declared.kind.Kind.TheVariants.{Counter, MaxRegister,
 use Rattle.la_object.specs.declared.query.Answer.{Answer}
 use Rattle.la_object.specs.declared.query.Answer.TheVariants as answer
 use Rattle.la_object.specs.declared.query.Query.{Query}
+use Rattle.la_object.specs.declared.query.Query.TheVariants.{Items}
 use Rattle.la_object.specs.Objects.{start}
 use Rattle.la_object.specs.Refusals.{IsAddRefusal, IsAskRefusal}
 use Rattle.la_object.specs.Shelves.{kind_at, answer_at, tags_at}
@@ -123,6 +124,31 @@ abbrev pub size_in : Answer → Option ℕ
 size_in (answer.Size count) = Some count
 size_in _ = None
 
+abbrev pub items_in : Answer → Option (List ℕ)
+items_in (answer.Items items) = Some items
+items_in _ = None
+
+-- what is put into a buffer, and what stays of it
+abbrev pub filled : (bytes buffer : List ℕ) → List ℕ
+filled bytes buffer = bytes ++ drop (length bytes) buffer
+
+-- the elements are told, and put into a buffer where that has room for them; 3 says that it has not
+abbrev pub AreFilledIn : (items buffer : List ℕ) → (status len : ℕ) → (given : List ℕ) → Type 0
+AreFilledIn items buffer status len given =
+    (len ≡ length items)
+    × (((status ≡ 0) × (given ≡ filled items buffer))
+    ⊎ ((status ≡ 3) × (length buffer < length items) × (given ≡ buffer)))
+
+abbrev pub AsksItems : HostState → (object : ℕ) → (buffer : List ℕ) → (status len : ℕ) → (given : List ℕ) → HostState
+    → Type 0
+AsksItems before object buffer status len given after =
+    (after ≡ with_objects before after.shelf)
+    × (((told : Answer) × (answer_at (shelf_now before) object Items ≡ Some told)
+    × ((items : List ℕ) × (items_in told ≡ Some items) × AreFilledIn items buffer status len given))
+    ⊎ (((status ≡ 4) × (given ≡ buffer) × ((told : Answer) × (answer_at (shelf_now before) object Items ≡ Some told)
+    × (items_in told ≡ None)))
+    ⊎ ((given ≡ buffer) × EndsSo ⊥ (IsAskRefusal (kind_at before.shelf.objects object)) status_of_shelf status)))
+
 -- ## Mail
 
 -- these states led from one to another, each by taking in what the node sends itself
@@ -130,10 +156,6 @@ abbrev pub AreBrought : List HostState → (before after : HostState) → Type 0
 AreBrought [] before after = after ≡ before
 AreBrought (last ∷ states) before after =
     AreBrought states before last × BringsOwn last (own_first last.kept last.mail) true after
-
--- what is put into a buffer, and what stays of it
-abbrev pub filled : (bytes buffer : List ℕ) → List ℕ
-filled bytes buffer = bytes ++ drop (length bytes) buffer
 
 -- what is handed over of what waits first
 abbrev pub IsHandedOver : HostState → Option Outgoing → (buffer : List ℕ) → (status to len : ℕ) → (given : List ℕ)

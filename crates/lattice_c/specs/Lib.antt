@@ -4,3 +4,4 @@ pub mod Statuses
 pub mod Calls
 pub mod Learning
 pub mod Numbered
+pub mod Starting

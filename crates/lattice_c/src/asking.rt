@@ -1,7 +1,7 @@
 // What objects are asked.
 ghost use Rattle.std.specs.Prelude.{◌≡◌, ◌⊎◌, ◌<◌, length};
 ghost use Rattle.la_object.specs.declared.query.Query.TheVariants.{Total, AtLeast, Largest, Has, Size, Items};
-ghost use Rattle.lattice_c.specs.Calls.{IsAsked, total_in, reached_in, largest_in, has_in, size_in};
+ghost use Rattle.lattice_c.specs.Calls.{IsAsked, total_in, reached_in, largest_in, has_in, size_in, AsksItems};
 
 use crate::handle::Handle;
 use crate::status::{FOREIGN, OK, SMALL, status_of_shelf};
@@ -96,7 +96,9 @@ pub extern "C" fn lattice_items(
     object: u16,
     buffer: &mut [u64],
     len: &mut usize,
-) -> u8 {
+) -> u8
+    ensures { AsksItems handle.old.host.host object buffer.old result len.new buffer.new handle.new.host.host }
+{
     match handle.inner().host.ask(object, &Query::Items) {
         Ok(Answer::Items(items)) => {
             let items = items.all();

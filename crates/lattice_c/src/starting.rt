@@ -1,6 +1,7 @@
 // Nodes made and freed, and their objects.
 ghost use Rattle.std.specs.Prelude.{◌≡◌};
 ghost use Rattle.lattice_c.specs.Calls.{kind_numbered, AddsObject};
+ghost use Rattle.lattice_c.specs.Starting.{AreGivenVotes, MakesNode};
 
 use crate::handle::{Handle, Place};
 use crate::status::{BAD_GROUP, BAD_KIND, MEMORY, OK, status_of_shelf, status_of_world};
@@ -19,7 +20,9 @@ pub extern "C" fn lattice_version() -> u32
 }
 
 // The votes of a group: these, or one for each replica where there are none.
-fn votes_of(replicas: u8, votes: &[u16]) -> Option<Votes> {
+fn votes_of(replicas: u8, votes: &[u16]) -> Option<Votes>
+    ensures { AreGivenVotes replicas votes.now result }
+{
     if !votes.is_empty() {
         return Votes::new(votes).ok();
     }
@@ -44,7 +47,9 @@ pub extern "C" fn lattice_node_new(
     cap: u32,
     votes: &[u16],
     out: &mut Place,
-) -> u8 {
+) -> u8
+    ensures { MakesNode replicas own commits cap votes.now result }
+{
     let Some(votes) = votes_of(replicas, votes) else {
         return BAD_GROUP;
     };
