@@ -1,7 +1,7 @@
 // la_embed: a host of a group of one, from its start on, whose letters to itself go as lines.
 use crate::holds::holds;
-use la_embed::{AnyObject, Embedded, Host, HostError};
 use la_durable::NodeError;
+use la_embed::{AnyObject, Embedded, Host, HostError};
 use la_node::{Config, WorldError};
 use la_object::{Answer, Kind, Query, ShelfError};
 use la_proposer::Votes;
@@ -41,7 +41,11 @@ const WRONG: usize = 99;
 
 // A refusal, which may only be for want of memory.
 fn refusal(is_memory: bool) -> Result<usize, AllocError> {
-    if is_memory { Err(AllocError) } else { Ok(WRONG) }
+    if is_memory {
+        Err(AllocError)
+    } else {
+        Ok(WRONG)
+    }
 }
 
 fn add(host: &mut Alone, alloc: Global) -> Result<usize, AllocError> {
