@@ -173,8 +173,8 @@ impl<B: Replicated> Host<B> {
     /// Submits an operation on an object, whether or not its shelf has one under the number, and answers the update's
     /// number. What is to be sent of it waits from then on, or is lost for want of memory, as a transport may lose it.
     ///
-    /// The errors are the node's: `Replica` where it has submitted its cap, has too much in its buffer or a vote is
-    /// submitted, and `Memory`.
+    /// The errors are the node's: `Replica` with `Full` where it has submitted its cap, or with `BallotsSpent` where no
+    /// ballot is left, and `Memory`. After each the host is as before.
     pub fn submit(&mut self, object: u16, op: Op) -> Result<u32, NodeError>
         ensures step { IfOk result (λ _.
             TakesCall self.old self.old.links (Submit self.old.kept.own object op) self.new) }
