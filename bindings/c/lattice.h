@@ -19,9 +19,19 @@
  *   handler, nor in a process that was forked after the node was made: the node would be there
  *   twice under one number.
  *
- * - A node keeps nothing on a disk. So once a node was stopped or lost, none may ever come back
- *   under its number in its group: it would give an id to two updates, or accept what it had
- *   refused. The others go on while they are a majority.
+ * - Whatever carries the lines of messages may lose, repeat and reorder them. It never shortens or
+ *   changes one: what is left may be another valid message, and then nodes differ without a word.
+ *   What a broken connection left of a line is dropped.
+ *
+ * - A node that lattice_node_new made keeps nothing on a disk. So once it was stopped or lost, none
+ *   may ever come back under its number in its group: it would give an id to two updates, or accept
+ *   what it had refused. The others go on while they are a majority. The same holds of a node whose
+ *   journal was lost, or went back to an earlier state.
+ *
+ * - Of a node that lattice_node_recover made, the program's file has the bytes that were found, up
+ *   to where they were to be kept, and behind them each record that lattice_next_record handed
+ *   over, in their order: on the disk, before lattice_synced is called. One process at a time has
+ *   it.
  */
 #ifndef LATTICE_H
 #define LATTICE_H
@@ -40,7 +50,7 @@ extern "C" {
 #endif
 
 /* The version of this interface: lattice_version() answers the library's. */
-#define LATTICE_VERSION 1u
+#define LATTICE_VERSION 2u
 
 /* A handle: one pointer, which is the library's. */
 typedef struct lattice_node {
@@ -123,7 +133,9 @@ enum lattice_status {
     LATTICE_ELSEWHERE = 20,
     /* The line is something that clients ask of a node, and no message. */
     LATTICE_NO_MESSAGE = 21,
-    /* The line is longer than a message may be. */
+    /* The line has more bytes than a message may have: 268,435,455 where it begins with n, o or t,
+     * else 16,777,216.
+     */
     LATTICE_TOO_LONG = 22,
     /* The line does not have the form of a message. */
     LATTICE_BAD_LINE = 23,
@@ -135,6 +147,16 @@ enum lattice_status {
     LATTICE_STALE = 26,
     /* The node has submitted nothing under this number, and it is not the next. */
     LATTICE_AHEAD = 27,
+    /* The node took something that is not on the disk yet: its record is to be written first. */
+    LATTICE_UNKEPT = 28,
+    /* The bytes are no journal of this version, or their first line is damaged. */
+    LATTICE_NO_JOURNAL = 29,
+    /* The journal is that of another replica or of another group. */
+    LATTICE_OTHER_JOURNAL = 30,
+    /* The journal is damaged at a line that is told. No older copy may be put in its place: the
+     * replica stays away.
+     */
+    LATTICE_DAMAGED = 31,
 };
 
 /* The kinds of objects, for lattice_add. */
@@ -180,6 +202,19 @@ uint32_t lattice_version(void);
 uint8_t lattice_node_new(uint8_t replicas, uint8_t own, uint8_t commits, uint32_t cap,
     const uint16_t *votes, size_t votes_len, lattice_node *out);
 
+/* Makes the same replica of the same group as before of what was found in its journal, and puts it
+ * into a place, which then is a handle. No byte at all is a new journal. Told is how many of the
+ * bytes the journal is to keep: behind them stands what a crash left of a record, which is to be
+ * cut off, on the disk, before anything is put behind. Objects are added anew, and all updates are
+ * handed over anew.
+ *
+ * In this order: as `lattice_node_new` ends, and LATTICE_NO_JOURNAL, LATTICE_OTHER_JOURNAL and
+ * LATTICE_DAMAGED, and then the line is told, from 1. Then the place is as before.
+ */
+uint8_t lattice_node_recover(uint8_t replicas, uint8_t own, uint8_t commits, uint32_t cap,
+    const uint16_t *votes, size_t votes_len, const uint8_t *found, size_t found_len, size_t *keep,
+    size_t *line, lattice_node *out);
+
 /* Frees a node. The handle, and each copy of it, is then no handle. */
 void lattice_node_free(lattice_node handle);
 
@@ -192,7 +227,8 @@ void lattice_node_free(lattice_node handle);
 uint8_t lattice_add(lattice_node *handle, uint16_t object, uint8_t kind);
 
 /* Submits an addition to a counter, and answers the update's number. What is to be sent of it waits
- * then.
+ * then. A node with a journal may have lost it after a crash, until its record is on the disk; so
+ * it is of all that it takes.
  *
  * LATTICE_FULL comes where the node has submitted its cap, and else LATTICE_MEMORY or
  * LATTICE_BALLOTS_SPENT; so it is of each call that submits.
@@ -247,12 +283,14 @@ uint8_t lattice_propose(lattice_node *handle, uint8_t commit, uint64_t value);
 /* What the node returned from an adopt-commit object: the value, and whether it is committed (1) or
  * adopted (0).
  *
- * LATTICE_NONE comes where it has returned nothing yet, or there is no such object.
+ * LATTICE_NONE comes where it has returned nothing yet, or there is no such object; LATTICE_UNKEPT
+ * where what the node took is not on the disk yet.
  */
 uint8_t lattice_outcome(lattice_node *handle, uint8_t commit, uint64_t *value, uint8_t *committed);
 
 /* Takes the line of a message of another node, without its end, honest or not. What is to be sent
- * then waits.
+ * then waits: of a message without news, or that stands on updates which this node does not have,
+ * how far this node is.
  *
  * LATTICE_TOO_LONG, LATTICE_BAD_LINE and LATTICE_BAD_NUMBER come where the bytes are no line of a
  * message, LATTICE_NO_MESSAGE where it is what a client asks, LATTICE_ELSEWHERE where it is for
@@ -266,40 +304,66 @@ uint8_t lattice_receive(lattice_node *handle, const uint8_t *bytes, size_t bytes
  * taken in before.
  *
  * LATTICE_NONE comes where nothing is to be sent; LATTICE_SMALL where the buffer has less room than
- * the line has bytes, which are told, and the line stays; LATTICE_MEMORY, and it stays.
+ * the line has bytes, which are told, and the line stays; LATTICE_MEMORY, and it stays;
+ * LATTICE_UNKEPT where what the node took is not on the disk yet.
  */
 uint8_t lattice_next_mail(lattice_node *handle, uint8_t *to, uint8_t *buffer, size_t buffer_room,
     size_t *len);
 
 /* What waits for an answer is put behind what is to be sent once more, but for what others are
- * known to have. A host calls it by a timer.
+ * known to have. By a timer, at each node: one call may not do. Where all is known, it sends
+ * nothing.
  */
 uint8_t lattice_again(lattice_node *handle);
+
+/* The bytes that the program has to put behind those of the node's journal next, into a buffer, and
+ * how many they are: all that the node took since the last record. What it sends to itself is taken
+ * in before. They are the same again until `lattice_synced`. A crash while they are put there may
+ * leave any part of them.
+ *
+ * LATTICE_NONE comes where the node took nothing since, or has no journal; LATTICE_SMALL where the
+ * buffer has less room than there are bytes, which are told.
+ */
+uint8_t lattice_next_record(lattice_node *handle, uint8_t *buffer, size_t buffer_room,
+    size_t *len);
+
+/* Takes note that the bytes of the last record are behind those of the journal, and on the disk:
+ * then the node tells what it took. Where that failed the node is to be freed, and made anew of
+ * what is found.
+ *
+ * LATTICE_NONE comes where no record was handed over since the last call.
+ */
+uint8_t lattice_synced(lattice_node *handle);
 
 /* The next update that was learnt and not yet handed over: each is handed over once, of each
  * replica in the order of numbers. Of an operation of one's own the bytes go into a buffer, and how
  * many they are is told.
  *
  * LATTICE_NONE comes where there is no further one; LATTICE_SMALL where the buffer has less room
- * than there are bytes, and then the update stays.
+ * than there are bytes, and then the update stays; LATTICE_UNKEPT where what the node took is not
+ * on the disk yet.
  */
 uint8_t lattice_next_learnt(lattice_node *handle, lattice_learnt *out, uint8_t *buffer,
     size_t buffer_room, size_t *len);
 
-/* How many updates of each replica the view has. */
-void lattice_view(lattice_node *handle, uint32_t counts[8]);
+/* How many updates of each replica the view has. LATTICE_UNKEPT comes where what the node took is
+ * not on the disk yet.
+ */
+uint8_t lattice_view(lattice_node *handle, uint32_t counts[8]);
 
 /* How many updates of each replica another node's view has at least, as far as was heard: none, of
- * a replica of 8 or more.
+ * a replica of 8 or more. LATTICE_UNKEPT comes where what the node took is not on the disk yet.
  */
-void lattice_known(lattice_node *handle, uint8_t replica, uint32_t counts[8]);
+uint8_t lattice_known(lattice_node *handle, uint8_t replica, uint32_t counts[8]);
 
-/* How many updates the node has submitted: the number of the last. */
-uint32_t lattice_submitted(lattice_node *handle);
+/* How many updates the node has submitted: the number of the last. LATTICE_UNKEPT comes where what
+ * the node took is not on the disk yet.
+ */
+uint8_t lattice_submitted(lattice_node *handle, uint32_t *number);
 
 /* A counter's total: its increments less its decrements. LATTICE_NO_OBJECT comes where there is no
- * such object, LATTICE_FOREIGN where it is of another kind, and LATTICE_MEMORY; so it is of each
- * question.
+ * such object, LATTICE_FOREIGN where it is of another kind, LATTICE_UNKEPT where what the node took
+ * is not on the disk yet, and LATTICE_MEMORY; so it is of each question.
  */
 uint8_t lattice_total(lattice_node *handle, uint16_t object, int64_t *total);
 

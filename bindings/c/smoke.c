@@ -21,7 +21,7 @@
         }                                                                   \
     } while (0)
 
-enum { NODES = 3, COUNTER = 1, REGISTER = 2, SET = 3, OWN = 4, LINE_ROOM = 65536, OWN_ROOM = 248 };
+enum { NODES = 3, COUNTER = 1, REGISTER = 2, SET = 3, OWN = 4, LINE_ROOM = 65536, OWN_ROOM = 248, FILE_ROOM = 65536 };
 
 /* The allocations of this thread that are still let through: below 0 all of them. */
 static _Thread_local long allocations_left = -1;
@@ -57,9 +57,16 @@ struct message {
     uint8_t *line;
 };
 
-/* A group of nodes, and what is on its way between them. */
+/* A file with a journal. */
+struct file {
+    uint8_t bytes[FILE_ROOM];
+    size_t len;
+};
+
+/* A group of nodes, and what is on its way between them. The first of them may have a journal. */
 struct group {
     lattice_node nodes[NODES];
+    struct file *journal;
     struct message *bag;
     size_t count;
     size_t room;
@@ -76,15 +83,32 @@ static uint64_t drawn(struct group *group) {
 
 static const uint16_t no_votes[1] = {0};
 
+static void add_objects(lattice_node *node) {
+    CHECK(lattice_add(node, COUNTER, LATTICE_COUNTER) == LATTICE_OK);
+    CHECK(lattice_add(node, REGISTER, LATTICE_MAX_REGISTER) == LATTICE_OK);
+    CHECK(lattice_add(node, SET, LATTICE_OR_SET) == LATTICE_OK);
+}
+
+/* Has on the disk what a node took, before anything of it is told: whether there was anything. */
+static bool keep(lattice_node *node, struct file *file) {
+    size_t len = 0;
+    uint8_t status = lattice_next_record(node, file->bytes + file->len, FILE_ROOM - file->len, &len);
+    if (status == LATTICE_NONE) {
+        return false;
+    }
+    CHECK(status == LATTICE_OK && len > 0);
+    file->len += len;
+    CHECK(lattice_synced(node) == LATTICE_OK);
+    return true;
+}
+
 static void begin(struct group *group, uint64_t seed) {
     memset(group, 0, sizeof *group);
     group->seed = seed;
     for (uint8_t own = 0; own < NODES; own++) {
         lattice_node *node = &group->nodes[own];
         CHECK(lattice_node_new(NODES, own, 2, 1000, no_votes, 0, node) == LATTICE_OK);
-        CHECK(lattice_add(node, COUNTER, LATTICE_COUNTER) == LATTICE_OK);
-        CHECK(lattice_add(node, REGISTER, LATTICE_MAX_REGISTER) == LATTICE_OK);
-        CHECK(lattice_add(node, SET, LATTICE_OR_SET) == LATTICE_OK);
+        add_objects(node);
     }
 }
 
@@ -113,6 +137,9 @@ static void throw_in(struct group *group, uint8_t to, const uint8_t *line, size_
 /* Puts all mail of the nodes into the bag. */
 static void collect(struct group *group) {
     static _Thread_local uint8_t line[LINE_ROOM];
+    if (group->journal) {
+        keep(&group->nodes[0], group->journal);
+    }
     for (int own = 0; own < NODES; own++) {
         for (;;) {
             uint8_t to = 255;
@@ -168,7 +195,7 @@ static bool is_within(const uint32_t one[8], const uint32_t other[8]) {
 static void check_comparable(struct group *group) {
     uint32_t views[NODES][8];
     for (int own = 0; own < NODES; own++) {
-        lattice_view(&group->nodes[own], views[own]);
+        CHECK(lattice_view(&group->nodes[own], views[own]) == LATTICE_OK);
     }
     for (int one = 0; one < NODES; one++) {
         for (int other = 0; other < one; other++) {
@@ -177,13 +204,19 @@ static void check_comparable(struct group *group) {
     }
 }
 
+static uint32_t submitted(lattice_node *node) {
+    uint32_t number = 0;
+    CHECK(lattice_submitted(node, &number) == LATTICE_OK);
+    return number;
+}
+
 /* Whether each node has learnt all that was submitted. */
 static bool is_settled(struct group *group) {
     for (int own = 0; own < NODES; own++) {
         uint32_t counts[8];
-        lattice_view(&group->nodes[own], counts);
+        CHECK(lattice_view(&group->nodes[own], counts) == LATTICE_OK);
         for (int replica = 0; replica < NODES; replica++) {
-            if (counts[replica] != lattice_submitted(&group->nodes[replica])) {
+            if (counts[replica] != submitted(&group->nodes[replica])) {
                 return false;
             }
         }
@@ -273,7 +306,7 @@ static void submit_each(struct group *group, const uint8_t *own_bytes) {
     CHECK(lattice_own(&nodes[2], OWN, own_bytes, OWN_ROOM, &number) == LATTICE_OK && number == 1);
     CHECK(lattice_own(&nodes[2], OWN, own_bytes, 0, &number) == LATTICE_OK && number == 2);
     CHECK(lattice_put(&nodes[2], SET, 9, &number) == LATTICE_OK && number == 3);
-    CHECK(lattice_submitted(&nodes[0]) == 4 && lattice_submitted(&nodes[2]) == 3);
+    CHECK(submitted(&nodes[0]) == 4 && submitted(&nodes[2]) == 3);
 }
 
 /* Every call once, and what it answers. */
@@ -296,8 +329,8 @@ static void test_calls(void) {
         check_learnt(&group.nodes[own], own_bytes);
     }
     uint32_t view[8], known[8];
-    lattice_view(&group.nodes[0], view);
-    lattice_known(&group.nodes[0], 1, known);
+    CHECK(lattice_view(&group.nodes[0], view) == LATTICE_OK);
+    CHECK(lattice_known(&group.nodes[0], 1, known) == LATTICE_OK);
     CHECK(view[0] == 4 && view[1] == 3 && view[2] == 3 && view[3] == 0 && is_within(known, view));
     end(&group);
 }
@@ -323,8 +356,7 @@ static void test_groups(void) {
     uint8_t line[LINE_ROOM], to;
     size_t len;
     CHECK(lattice_next_mail(&node, &to, line, sizeof line, &len) == LATTICE_NONE);
-    lattice_view(&node, counts);
-    CHECK(counts[0] == 1);
+    CHECK(lattice_view(&node, counts) == LATTICE_OK && counts[0] == 1);
     lattice_node_free(node);
 }
 
@@ -349,7 +381,7 @@ static void check_numbers(lattice_node *node) {
     CHECK(lattice_propose(node, 0, 1) == LATTICE_ALREADY_PROPOSED);
     uint8_t bytes[OWN_ROOM + 1] = {0};
     CHECK(lattice_own(node, OWN, bytes, sizeof bytes, &number) == LATTICE_TOO_LARGE && number == 7);
-    CHECK(lattice_submitted(node) == 0);
+    CHECK(submitted(node) == 0);
 }
 
 /* Under a number a submission counts once. */
@@ -363,7 +395,7 @@ static void test_submit_at(void) {
     CHECK(lattice_submit_at(&node, 1, COUNTER, LATTICE_UPDATE_INC, 5, bytes, 0) == LATTICE_OK);
     CHECK(lattice_submit_at(&node, 1, COUNTER, LATTICE_UPDATE_INC, 6, bytes, 0) == LATTICE_STALE);
     CHECK(lattice_submit_at(&node, 1, REGISTER, LATTICE_UPDATE_INC, 5, bytes, 0) == LATTICE_STALE);
-    CHECK(lattice_submitted(&node) == 1);
+    CHECK(submitted(&node) == 1);
     CHECK(lattice_submit_at(&node, 2, COUNTER, LATTICE_UPDATE_REMOVE, 1, bytes, 0) == LATTICE_BAD_KIND);
     CHECK(lattice_submit_at(&node, 2, COUNTER, LATTICE_UPDATE_VOTE, 1, bytes, 0) == LATTICE_BAD_KIND);
     CHECK(lattice_submit_at(&node, 2, COUNTER, LATTICE_UPDATE_DEC, UINT32_MAX + 1ull, bytes, 0) == LATTICE_TOO_LARGE);
@@ -373,7 +405,7 @@ static void test_submit_at(void) {
     CHECK(lattice_submit_at(&node, 3, REGISTER, LATTICE_UPDATE_RAISE, 7, bytes, 0) == LATTICE_OK);
     CHECK(lattice_submit_at(&node, 4, SET, LATTICE_UPDATE_PUT, 7, bytes, 0) == LATTICE_OK);
     CHECK(lattice_submit_at(&node, 5, SET, LATTICE_UPDATE_MARK, 0, bytes, 0) == LATTICE_OK);
-    CHECK(lattice_submitted(&node) == 5);
+    CHECK(submitted(&node) == 5);
     lattice_node_free(node);
 }
 
@@ -392,7 +424,7 @@ static void check_lines(lattice_node *node) {
     CHECK(received(node, "yes 4 0 1 0 5 has 0 view 0") == LATTICE_ELSEWHERE);
     CHECK(received(node, "yes 3 7 1 0 5 has 0 view 0") == LATTICE_NO_REPLICA);
     CHECK(received(node, "yes 3 0 1 5 5 has 0 view 0") == LATTICE_NO_INSTANCE);
-    CHECK(received(node, "offer 3 0 1 0 5 has 1 view 0 base 1;0.2 1 inc 5") == LATTICE_NO_BASE);
+    CHECK(received(node, "offer 3 0 1 1 5 has 1 view 0 base 1;0.2 0 vote 5") == LATTICE_NO_BASE);
     CHECK(received(node, "offer 3 0 1 0 5 has 0 view 0 base 0;0.3 1 inc 5") == LATTICE_GAP);
     CHECK(received(node, "offer 3 0 1 0 1 has 0 view 0 base 0;0.1 1 inc 5") == LATTICE_OK);
     CHECK(received(node, "offer 3 0 1 0 1 has 0 view 0 base 0;0.1 1 inc 6") == LATTICE_CLASH);
@@ -403,6 +435,17 @@ static void check_lines(lattice_node *node) {
     CHECK(lattice_receive(node, line, len) == LATTICE_TOO_LONG);
     CHECK(lattice_receive(node, line, len - 1) == LATTICE_BAD_LINE);
     free(line);
+}
+
+/* An offer over more than replica 1 of three has, which it does not take: it tells how far it is. */
+static void check_base(lattice_node *node) {
+    const char *told = "known 3 1 0 has 0 view 0";
+    uint8_t to, line[LINE_ROOM];
+    size_t len;
+    CHECK(received(node, "offer 3 0 1 0 5 has 1 view 0 base 1;0.2 1 inc 5") == LATTICE_OK);
+    CHECK(lattice_next_mail(node, &to, line, sizeof line, &len) == LATTICE_OK && to == 0);
+    CHECK(len == strlen(told) && memcmp(line, told, len) == 0);
+    CHECK(lattice_next_mail(node, &to, line, sizeof line, &len) == LATTICE_NONE);
 }
 
 /* An element that was put 65 times can't be taken out. */
@@ -426,6 +469,7 @@ static void test_refusals(void) {
     struct group group;
     begin(&group, 1);
     check_numbers(&group.nodes[0]);
+    check_base(&group.nodes[1]);
     check_lines(&group.nodes[1]);
     end(&group);
     check_tags();
@@ -535,7 +579,7 @@ static int run_refused(long allocation) {
     settle(&group);
     for (int own = 0; own < NODES; own++) {
         CHECK(lattice_total(&group.nodes[own], COUNTER, &total) == LATTICE_OK && total == NODES);
-        CHECK(lattice_submitted(&group.nodes[own]) == 4);
+        CHECK(submitted(&group.nodes[own]) == 4);
     }
     end(&group);
     return was_refused ? refused + 1 : refused;
@@ -562,9 +606,12 @@ static int receive_refused(long allocation) {
             allocations_left = -1;
             if (status == LATTICE_OK) {
                 left++;
+                int before = refused;
                 allocations_left = allocation;
                 UNTIL_MEMORY(lattice_receive(&group.nodes[to], line, len));
                 allocations_left = -1;
+                /* Reading a line takes memory: where the first is refused, the call is. */
+                CHECK(allocation > 0 || refused > before);
             }
         }
     }
@@ -587,6 +634,221 @@ static void test_memory(void) {
         received += receive_refused(allocation) > 0;
     }
     CHECK(refused > 20 && received > 0);
+}
+
+/* A node by its journal: what is behind the bytes that are to be kept is cut, and objects are added anew. */
+static uint8_t recover(lattice_node *node, uint8_t own, struct file *file, size_t *line) {
+    size_t kept = SIZE_MAX;
+    uint8_t status = lattice_node_recover(NODES, own, 2, 1000, no_votes, 0, file->bytes, file->len, &kept, line, node);
+    if (status == LATTICE_OK) {
+        CHECK(kept <= file->len);
+        file->len = kept;
+        add_objects(node);
+        keep(node, file);
+    }
+    return status;
+}
+
+/* Nothing is told of what is not on the disk yet, and no result is touched. */
+static void check_unkept(lattice_node *node) {
+    uint8_t byte = 7, buffer[OWN_ROOM] = {7};
+    uint32_t number = 7, counts[8] = {7};
+    uint64_t value = 7, items[2] = {7, 7};
+    int64_t total = 7;
+    size_t len = 7;
+    lattice_learnt learnt = {.number = 7};
+    CHECK(lattice_outcome(node, 0, &value, &byte) == LATTICE_UNKEPT);
+    CHECK(lattice_next_mail(node, &byte, buffer, sizeof buffer, &len) == LATTICE_UNKEPT);
+    CHECK(lattice_next_learnt(node, &learnt, buffer, sizeof buffer, &len) == LATTICE_UNKEPT);
+    CHECK(lattice_view(node, counts) == LATTICE_UNKEPT);
+    CHECK(lattice_known(node, 0, counts) == LATTICE_UNKEPT);
+    CHECK(lattice_submitted(node, &number) == LATTICE_UNKEPT);
+    CHECK(lattice_total(node, COUNTER, &total) == LATTICE_UNKEPT);
+    CHECK(lattice_at_least(node, COUNTER, 0, &byte) == LATTICE_UNKEPT);
+    CHECK(lattice_largest(node, REGISTER, &value) == LATTICE_UNKEPT);
+    CHECK(lattice_has(node, SET, 1, &byte) == LATTICE_UNKEPT);
+    CHECK(lattice_size(node, SET, &value) == LATTICE_UNKEPT);
+    CHECK(lattice_items(node, SET, items, 2, &len) == LATTICE_UNKEPT);
+    CHECK(byte == 7 && buffer[0] == 7 && number == 7 && counts[0] == 7 && value == 7 && items[0] == 7);
+    CHECK(total == 7 && len == 7 && learnt.number == 7);
+}
+
+/* A record is the same until it is told to be on the disk, and a buffer too small takes none of it. */
+static void check_record(lattice_node *node, struct file *file) {
+    uint8_t *place = file->bytes + file->len, again[LINE_ROOM];
+    size_t room = FILE_ROOM - file->len, len = 0, wanted = 0;
+    place[0] = 7;
+    CHECK(lattice_next_record(node, place, 0, &wanted) == LATTICE_SMALL && wanted > 1);
+    CHECK(lattice_next_record(node, place, wanted - 1, &len) == LATTICE_SMALL && len == wanted && place[0] == 7);
+    CHECK(lattice_next_record(node, place, wanted, &len) == LATTICE_OK && len == wanted);
+    CHECK(lattice_next_record(node, again, room, &len) == LATTICE_OK && len == wanted);
+    CHECK(memcmp(place, again, len) == 0 && place[len - 1] == '\n');
+    file->len += len;
+}
+
+/* A new journal, and what is told before a sync and after it; answers how long its head is. */
+static size_t check_new(lattice_node *node, struct file *file) {
+    size_t kept = 7, line = 7, head = 0;
+    uint32_t number = 0;
+    CHECK(lattice_node_recover(NODES, 0, 2, 1000, no_votes, 0, file->bytes, 0, &kept, &line, node) == LATTICE_OK);
+    CHECK(kept == 0);
+    check_record(node, file);
+    head = file->len;
+    CHECK(lattice_synced(node) == LATTICE_OK && lattice_synced(node) == LATTICE_NONE && !keep(node, file));
+    add_objects(node);
+    CHECK(!keep(node, file) && submitted(node) == 0);
+    CHECK(lattice_inc(node, COUNTER, 5, &number) == LATTICE_OK && number == 1);
+    check_unkept(node);
+    CHECK(lattice_synced(node) == LATTICE_NONE);
+    check_record(node, file);
+    check_unkept(node);
+    CHECK(lattice_synced(node) == LATTICE_OK && submitted(node) == 1 && !keep(node, file));
+    return head;
+}
+
+/* Several calls have one record, and refused ones none. */
+static void check_calls(lattice_node *node, struct file *file) {
+    uint32_t number = 0;
+    uint8_t to = 0, line[LINE_ROOM];
+    size_t len = 0;
+    CHECK(lattice_put(node, SET, 8, &number) == LATTICE_OK && number == 2);
+    CHECK(lattice_submit_at(node, 3, SET, LATTICE_UPDATE_PUT, 9, line, 0) == LATTICE_OK);
+    CHECK(lattice_submit_at(node, 2, SET, LATTICE_UPDATE_PUT, 9, line, 0) == LATTICE_STALE);
+    CHECK(lattice_propose(node, 0, 7) == LATTICE_OK && lattice_propose(node, 0, 7) == LATTICE_ALREADY_PROPOSED);
+    CHECK(received(node, "offer 3 1 0 0 1 has 0 view 0 base 0;1.1 1 inc 5") == LATTICE_OK);
+    CHECK(received(node, "hello") == LATTICE_BAD_LINE && lattice_again(node) == LATTICE_OK);
+    check_unkept(node);
+    CHECK(keep(node, file) && submitted(node) == 3);
+    CHECK(lattice_next_mail(node, &to, line, sizeof line, &len) == LATTICE_OK && (to == 1 || to == 2));
+}
+
+/* A journal that is cut in its last record leads to what was told before that, and the node goes on from there. */
+static void check_cuts(const struct file *file, size_t told) {
+    static struct file cut;
+    for (size_t len = told; len <= file->len; len++) {
+        lattice_node node = {NULL};
+        size_t line = 7;
+        uint32_t wanted = len < file->len ? 1 : 3, number = 0;
+        cut = *file;
+        cut.len = len;
+        CHECK(recover(&node, 0, &cut, &line) == LATTICE_OK && line == 7);
+        CHECK(cut.len == (len < file->len ? told : len) && submitted(&node) == wanted);
+        CHECK(lattice_mark(&node, COUNTER, &number) == LATTICE_OK && number == wanted + 1 && keep(&node, &cut));
+        lattice_node_free(node);
+        CHECK(recover(&node, 0, &cut, &line) == LATTICE_OK && submitted(&node) == number);
+        lattice_node_free(node);
+    }
+}
+
+/* What is no journal of this node, or damaged, leaves the places as they were, but for the damaged line. */
+static void check_others(const struct file *file, size_t head) {
+    static struct file other;
+    lattice_node node = {NULL};
+    size_t line = 7, kept = 7;
+    uint8_t *bytes = other.bytes;
+    other = *file;
+    CHECK(recover(&node, 1, &other, &line) == LATTICE_OTHER_JOURNAL);
+    CHECK(recover(&node, 3, &other, &line) == LATTICE_NO_REPLICA);
+    uint8_t status = lattice_node_recover(3, 0, 2, 7, no_votes, 0, bytes, other.len, &kept, &line, &node);
+    CHECK(status == LATTICE_OTHER_JOURNAL);
+    CHECK(lattice_node_recover(9, 0, 2, 7, no_votes, 0, bytes, other.len, &kept, &line, &node) == LATTICE_BAD_GROUP);
+    other.len = head - 1;
+    CHECK(recover(&node, 0, &other, &line) == LATTICE_NO_JOURNAL);
+    other = *file;
+    bytes[0] ^= 1;
+    CHECK(recover(&node, 0, &other, &line) == LATTICE_NO_JOURNAL && line == 7);
+    other = *file;
+    bytes[head] ^= 1;
+    CHECK(lattice_node_recover(3, 0, 2, 1000, no_votes, 0, bytes, other.len, &kept, &line, &node) == LATTICE_DAMAGED);
+    CHECK(line == 2 && kept == 7 && node.at == NULL);
+}
+
+/* Memory that is refused, at each allocation in turn: the node is made, or the record handed out, the next time. */
+static void check_journal_memory(const struct file *file) {
+    static struct file copy;
+    int refused = 0;
+    for (long allocation = 0, was_refused = 1; was_refused; allocation++) {
+        lattice_node node = {NULL};
+        size_t line = 7, kept = 7, len = 0;
+        uint32_t number = 0;
+        was_refused = refused;
+        copy = *file;
+        allocations_left = allocation;
+        UNTIL_MEMORY(lattice_node_recover(3, 0, 2, 1000, no_votes, 0, copy.bytes, copy.len, &kept, &line, &node));
+        UNTIL_MEMORY(lattice_inc(&node, COUNTER, 5, &number));
+        UNTIL_MEMORY(lattice_next_record(&node, copy.bytes + copy.len, FILE_ROOM - copy.len, &len));
+        allocations_left = -1;
+        CHECK(kept == file->len && number == 4 && lattice_synced(&node) == LATTICE_OK);
+        lattice_node_free(node);
+        copy.len += len;
+        CHECK(recover(&node, 0, &copy, &line) == LATTICE_OK && submitted(&node) == 4);
+        lattice_node_free(node);
+        was_refused = refused - was_refused;
+    }
+    CHECK(refused > 10);
+}
+
+/* A journal from its first byte on. */
+static void test_journal(void) {
+    static struct file file;
+    lattice_node node = {NULL};
+    uint8_t buffer[1];
+    size_t len = 7;
+    CHECK(lattice_node_new(NODES, 0, 2, 1000, no_votes, 0, &node) == LATTICE_OK);
+    CHECK(lattice_next_record(&node, buffer, 1, &len) == LATTICE_NONE && lattice_synced(&node) == LATTICE_NONE);
+    lattice_node_free(node);
+    file.len = 0;
+    size_t head = check_new(&node, &file), told = file.len;
+    check_calls(&node, &file);
+    lattice_node_free(node);
+    check_cuts(&file, told);
+    check_others(&file, head);
+    check_journal_memory(&file);
+}
+
+/* The first node ends without what it took last, and comes back by its journal beside the others, who stay. */
+static void restart(struct group *group) {
+    size_t line = 7;
+    lattice_node_free(group->nodes[0]);
+    CHECK(recover(&group->nodes[0], 0, group->journal, &line) == LATTICE_OK);
+}
+
+/* Lives of one node beside two others, over a bag that loses, repeats and reorders. */
+static void run_lives(uint64_t seed) {
+    static struct file file;
+    struct group group;
+    size_t line = 7;
+    uint32_t number = 0;
+    int64_t total = 0;
+    begin(&group, seed);
+    lattice_node_free(group.nodes[0]);
+    file.len = 0;
+    group.journal = &file;
+    CHECK(recover(&group.nodes[0], 0, &file, &line) == LATTICE_OK);
+    for (int64_t made = 0; made < 30;) {
+        uint64_t way = drawn(&group) % 16;
+        if (way < 3) {
+            CHECK(lattice_inc(&group.nodes[way], COUNTER, 1, &number) == LATTICE_OK);
+            made++;
+        } else if (way == 3) {
+            CHECK(lattice_again(&group.nodes[drawn(&group) % NODES]) == LATTICE_OK);
+        } else if (way == 4) {
+            keep(&group.nodes[0], &file);
+            CHECK(lattice_mark(&group.nodes[0], COUNTER, &number) == LATTICE_OK);
+            restart(&group); /* the mark is lost, and was told to nobody */
+        } else if (group.count > 0) {
+            hand_over(&group, 20, 20);
+        }
+        collect(&group);
+        check_comparable(&group);
+    }
+    settle(&group);
+    for (int own = 0; own < NODES; own++) {
+        CHECK(lattice_total(&group.nodes[own], COUNTER, &total) == LATTICE_OK && total == 30);
+    }
+    restart(&group);
+    CHECK(lattice_total(&group.nodes[0], COUNTER, &total) == LATTICE_OK && total == 30);
+    end(&group);
 }
 
 static void *run_thread(void *seed) {
@@ -618,7 +880,7 @@ static void test_threads(void) {
     CHECK(pthread_create(&other, NULL, add_one, &group.nodes[1]) == 0);
     CHECK(pthread_join(other, NULL) == 0);
     settle(&group);
-    CHECK(lattice_submitted(&group.nodes[1]) == 1);
+    CHECK(submitted(&group.nodes[1]) == 1);
     end(&group);
 }
 
@@ -628,11 +890,13 @@ int main(void) {
     test_submit_at();
     test_refusals();
     test_memory();
+    test_journal();
     for (uint64_t seed = 1; seed <= 8; seed++) {
         run_lossy(seed, 40);
         run_proposals(seed);
+        run_lives(seed);
     }
     test_threads();
-    puts("smoke: every call, every status, a lossy bag, refused memory and two threads are right");
+    puts("smoke: every call, every status, a lossy bag, journals, refused memory and two threads are right");
     return 0;
 }

@@ -45,9 +45,11 @@ from __future__ import annotations
 
 
 class LatticeError(Exception):
-    """Why a call was refused. The node is then as before. `status` is the library's number."""
+    """Why a call was refused. The node is then as before. `status` is the library's number, and `line` of a damaged
+    journal the line from which on it can't be played, from 1."""
 
     status = 0
+    line = 0
     text = ""
 
     def __str__(self) -> str:

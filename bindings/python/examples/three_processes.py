@@ -1,28 +1,44 @@
 """Three nodes in three processes, over TCP on this machine: `python3 examples/three_processes.py` in the package's
 folder.
 
-All queues are bounded, and what finds no room is dropped, as a network may lose it: a timer has it sent again.
-Connections are cut now and then, and made anew. Node 2 is slow: the others agree without it, and it catches up.
+Each node has a journal. One of them is killed twice and started again at once, and comes back by its journal. All
+queues are bounded, and what finds no room is dropped, as a network may lose it: a timer has it sent again. Connections
+are cut now and then, and made anew. Node 2 is slow: the others agree without it, and it catches up.
 """
 from __future__ import annotations
 
 import asyncio
 import sys
+import tempfile
 import time
 from pathlib import Path
 from typing import Any
 
 sys.path.insert(0, str(Path(__file__).resolve().parent.parent))
 
-from lattice import Kind, LatticeError, Node  # noqa: E402
+from lattice import (  # noqa: E402
+    BadLineError,
+    BadNumberError,
+    Durable,
+    ElsewhereError,
+    Kind,
+    NoMessageError,
+    OutOfMemoryError,
+    TooLongError,
+)
 
 NODES, SLOW, VISITS = 3, 2, 1
 # How many updates each node submits.
 UPDATES = 100
-# How many messages may wait for a connection, or for the node.
-WAITING = 256
-# How many lines go over a connection before it is cut, and how many bytes one may have.
-LINES, LINE_BYTES = 60, 1 << 24
+# The node that is killed, and how many of its own updates it has learnt by then at least.
+KILLED, KILLED_AT = 1, (30, 60)
+# How many messages may wait for a connection, or for the node, and how many lines are taken with one sync at most.
+WAITING, TAKEN = 256, 64
+# How many lines go over a connection before it is cut, and how many bytes one may have with its end.
+LINES, LINE_BYTES = 60, 1 << 28
+# A line that is refused so is passed over. Any other refusal says that a node came back with less than it had, or that
+# somebody lies: the node stops, and a person has to look.
+HARMLESS = (TooLongError, BadLineError, BadNumberError, NoMessageError, ElsewhereError, OutOfMemoryError)
 # In seconds.
 AGAIN, RECONNECT, SLOWNESS, PATIENCE = 0.05, 0.01, 0.003, 60
 
@@ -43,31 +59,38 @@ async def send_lines(port: int, lines: asyncio.Queue[bytes]) -> None:
 class Host:
     """A node with its connections."""
 
-    def __init__(self, own: int) -> None:
-        # A node that keeps a journal would be played from it here. This one keeps nothing: once its process ended, none
-        # may be started under its number again.
-        self.own, self.node = own, Node(NODES, own)
+    def __init__(self, own: int, folder: str) -> None:
+        """The node by its journal, with its object, which is in no journal."""
+        self.own, self.node = own, Durable(NODES, own, folder)
         self.node.add(VISITS, Kind.COUNTER)
+        print(f"node {own}: it has submitted {self.node.submitted()}", file=sys.stderr)
         self.came: asyncio.Queue[bytes] = asyncio.Queue(WAITING)
         self.queues: list[asyncio.Queue[bytes]] = [asyncio.Queue(WAITING) for _ in range(NODES)]
-        self.began, self.told_own, self.told_all = time.monotonic(), False, False
-        self.ended = False
+        self.told_own, self.told_all, self.ended = 0, False, False
 
     async def read_lines(self, reader: asyncio.StreamReader, writer: asyncio.StreamWriter) -> None:
-        """Hands each line that comes over a connection to the node, and waits where it is behind."""
+        """Hands each line that comes over a connection to the node, and waits where it is behind. A line whose end did
+        not come is dropped: what is there of it may be another valid message."""
         try:
-            while line := await reader.readline():
-                await self.came.put(line.rstrip(b"\n"))
+            while (line := await reader.readline()).endswith(b"\n"):
+                await self.came.put(line[:-1])
         except (OSError, asyncio.CancelledError):
             pass  # the connection broke, or the process ends
         finally:
             writer.close()
 
-    def submit_next(self) -> None:
-        """Submits the next update, once the last is learnt."""
+    def take(self, lines: list[bytes]) -> None:
+        """Takes lines, and submits the next update once the last is learnt: all that with one sync."""
         submitted = self.node.submitted()
-        if submitted < UPDATES and self.node.view()[self.own] == submitted:
-            self.node.inc(VISITS)
+        submits = submitted < UPDATES and self.node.view()[self.own] == submitted
+        with self.node.batch() as batch:
+            for line in lines:
+                try:
+                    batch.receive(line)
+                except HARMLESS as refused:
+                    print(f"node {self.own}: a line is refused: {refused}", file=sys.stderr)
+            if submits:
+                batch.inc(VISITS)
 
     def send_mail(self) -> None:
         for mail in self.node.mail():
@@ -76,44 +99,44 @@ class Host:
                 self.queues[mail.to].put_nowait(mail.line)
 
     def tell(self) -> None:
-        """Tells once that all its own updates are learnt, and once that those of all are."""
-        view, after = self.node.view(), time.monotonic() - self.began
-        if not self.told_own and view[self.own] == UPDATES:
-            print(f"node {self.own}: its own are learnt after {after:.3f} s", file=sys.stderr)
-            self.told_own = True
+        """Tells how many of its own updates are learnt, and once that all of all nodes are."""
+        view = self.node.view()
+        if view[self.own] > self.told_own:
+            self.told_own = view[self.own]
+            print(f"own {self.told_own}", flush=True)
         if not self.told_all and view[:NODES] == [UPDATES] * NODES:
-            print(f"total {self.node.total(VISITS)}", flush=True)
-            print(f"node {self.own}: all is learnt after {after:.3f} s", file=sys.stderr)
             self.told_all = True
+            print(f"total {self.node.total(VISITS)}", flush=True)
 
-    def receive(self, line: bytes) -> None:
+    async def next_lines(self, timer: float) -> list[bytes]:
+        """The lines that came; none where the timer ran out."""
         try:
-            self.node.receive(line)
-        except LatticeError as refused:
-            # A line that a cut left behind may be no message.
-            print(f"node {self.own}: a line is refused: {refused}", file=sys.stderr)
+            lines = [await asyncio.wait_for(self.came.get(), max(timer - time.monotonic(), 0))]
+        except asyncio.TimeoutError:
+            return []
+        while len(lines) < TAKEN and not self.came.empty():
+            lines.append(self.came.get_nowait())
+        return lines
 
     async def run(self) -> None:
         timer = time.monotonic() + AGAIN
+        lines: list[bytes] = []
         while not self.ended:
-            self.submit_next()
+            self.take(lines)
             self.send_mail()
             self.tell()
-            try:
-                line = await asyncio.wait_for(self.came.get(), max(timer - time.monotonic(), 0))
-            except asyncio.TimeoutError:
+            lines = await self.next_lines(timer)
+            if not lines:
                 self.node.again()
                 timer = time.monotonic() + AGAIN
-                continue
-            if self.own == SLOW:
-                await asyncio.sleep(SLOWNESS)
-            self.receive(line)
+            elif self.own == SLOW:
+                await asyncio.sleep(SLOWNESS * len(lines))
 
 
-async def run_node(own: int) -> None:
+async def run_node(own: int, port: int, folder: str) -> None:
     """A node's process: it prints its port, reads those of all, and ends with its input."""
-    host = Host(own)
-    server = await asyncio.start_server(host.read_lines, "127.0.0.1", 0, limit=LINE_BYTES)
+    host = Host(own, folder)
+    server = await asyncio.start_server(host.read_lines, "127.0.0.1", port, limit=LINE_BYTES)
     print(f"port {server.sockets[0].getsockname()[1]}", flush=True)
     loop = asyncio.get_running_loop()
     ports = (await loop.run_in_executor(None, sys.stdin.readline)).split()
@@ -129,35 +152,74 @@ async def run_node(own: int) -> None:
             raise result
 
 
-async def number_from(node: asyncio.subprocess.Process, word: str) -> int:
-    """The number behind a word, on the next line of a node's output."""
-    assert node.stdout
-    line = (await node.stdout.readline()).decode()
-    if not line.startswith(word):
-        raise RuntimeError(f"a node told {line!r}")
-    return int(line.removeprefix(word))
+class Process:
+    """A node's process, as its parent has it."""
+
+    def __init__(self, process: asyncio.subprocess.Process) -> None:
+        assert process.stdin and process.stdout
+        self.process, self.input, self.output = process, process.stdin, process.stdout
+
+    @classmethod
+    async def start(cls, own: int, port: int, folder: Path) -> Process:
+        words = [sys.executable, "-B", __file__, str(own), str(port), str(folder / str(own))]
+        pipe = asyncio.subprocess.PIPE
+        return cls(await asyncio.create_subprocess_exec(*words, stdin=pipe, stdout=pipe))
+
+    async def told(self, word: str) -> int:
+        """The number behind a word, on the next line of the node's output that begins with it."""
+        while line := (await self.output.readline()).decode():
+            if line.startswith(word):
+                return int(line.removeprefix(word))
+        raise RuntimeError("a node ended")
+
+    def tell(self, ports: list[int]) -> None:
+        """Tells the node the ports of all."""
+        self.input.write((" ".join(map(str, ports)) + "\n").encode())
+
+    async def kill(self) -> None:
+        self.process.kill()
+        await self.process.wait()
+
+    async def end(self) -> None:
+        self.input.close()  # a node ends with its input
+        await self.process.wait()
 
 
-async def run_all() -> None:
-    pipe = asyncio.subprocess.PIPE
-    words = [sys.executable, "-B", __file__]
-    nodes = [await asyncio.create_subprocess_exec(*words, str(own), stdin=pipe, stdout=pipe) for own in range(NODES)]
+async def totals(nodes: list[Process], folder: Path) -> list[int]:
+    """Kills one of the nodes twice, and answers the totals that they come to."""
+    ports = [await node.told("port ") for node in nodes]
+    for node in nodes:
+        node.tell(ports)
+    for learnt in KILLED_AT:
+        while await nodes[KILLED].told("own ") < learnt:
+            pass
+        await nodes[KILLED].kill()
+        nodes[KILLED] = await Process.start(KILLED, ports[KILLED], folder)
+        nodes[KILLED].tell(ports)
+    return await asyncio.gather(*(node.told("total ") for node in nodes))
+
+
+async def run_all(folder: Path) -> None:
+    for own in range(NODES):
+        (folder / str(own)).mkdir()
+    nodes = [await Process.start(own, 0, folder) for own in range(NODES)]
     try:
-        ports = [str(await number_from(node, "port ")) for node in nodes]
-        for node in nodes:
-            assert node.stdin
-            node.stdin.write((" ".join(ports) + "\n").encode())
-        totals = await asyncio.wait_for(asyncio.gather(*(number_from(node, "total ") for node in nodes)), PATIENCE)
+        found = await asyncio.wait_for(totals(nodes, folder), PATIENCE)
     finally:
         for node in nodes:
-            assert node.stdin
-            node.stdin.close()  # the nodes end with their input
-        for node in nodes:
-            await node.wait()
-    print(f"the nodes come to {totals}")
-    if totals != [NODES * UPDATES] * NODES:
+            await node.end()
+    print(f"the nodes come to {found}")
+    if found != [NODES * UPDATES] * NODES:
         raise SystemExit("the totals are wrong")
 
 
+def main() -> None:
+    if len(sys.argv) > 1:
+        asyncio.run(run_node(int(sys.argv[1]), int(sys.argv[2]), sys.argv[3]))
+        return
+    with tempfile.TemporaryDirectory() as folder:
+        asyncio.run(run_all(Path(folder)))
+
+
 if __name__ == "__main__":
-    asyncio.run(run_node(int(sys.argv[1])) if len(sys.argv) > 1 else run_all())
+    main()

@@ -14,9 +14,16 @@
 - The program's malloc, realloc and free are one allocator. No call is made from a signal handler,
   nor in a process that was forked after the node was made: the node would be there twice under one
   number.
-- A node keeps nothing on a disk. So once a node was stopped or lost, none may ever come back under
-  its number in its group: it would give an id to two updates, or accept what it had refused. The
-  others go on while they are a majority.
+- Whatever carries the lines of messages may lose, repeat and reorder them. It never shortens or
+  changes one: what is left may be another valid message, and then nodes differ without a word. What
+  a broken connection left of a line is dropped.
+- A node that lattice_node_new made keeps nothing on a disk. So once it was stopped or lost, none
+  may ever come back under its number in its group: it would give an id to two updates, or accept
+  what it had refused. The others go on while they are a majority. The same holds of a node whose
+  journal was lost, or went back to an earlier state.
+- Of a node that lattice_node_recover made, the program's file has the bytes that were found, up to
+  where they were to be kept, and behind them each record that lattice_next_record handed over, in
+  their order: on the disk, before lattice_synced is called. One process at a time has it.
 """
 from __future__ import annotations
 
@@ -24,7 +31,7 @@ import ctypes
 from ctypes import POINTER, c_int64, c_size_t, c_uint8, c_uint16, c_uint32, c_uint64, c_void_p
 
 # The version of the interface.
-VERSION = 1
+VERSION = 2
 
 # The call was done.
 OK = 0
@@ -71,7 +78,8 @@ ALREADY_PROPOSED = 19
 ELSEWHERE = 20
 # The line is something that clients ask of a node, and no message.
 NO_MESSAGE = 21
-# The line is longer than a message may be.
+# The line has more bytes than a message may have: 268,435,455 where it begins with n, o or t, else
+# 16,777,216.
 TOO_LONG = 22
 # The line does not have the form of a message.
 BAD_LINE = 23
@@ -83,6 +91,15 @@ BAD_KIND = 25
 STALE = 26
 # The node has submitted nothing under this number, and it is not the next.
 AHEAD = 27
+# The node took something that is not on the disk yet: its record is to be written first.
+UNKEPT = 28
+# The bytes are no journal of this version, or their first line is damaged.
+NO_JOURNAL = 29
+# The journal is that of another replica or of another group.
+OTHER_JOURNAL = 30
+# The journal is damaged at a line that is told. No older copy may be put in its place: the replica
+# stays away.
+DAMAGED = 31
 
 # A counter: inc, dec, total, at_least.
 COUNTER = 0
@@ -152,6 +169,27 @@ CALLS = [
     # In this order: BAD_GROUP where one of these is out of its range; NO_REPLICA; MEMORY. Then the
     # place is as before.
     ("lattice_node_new", c_uint8, [c_uint8, c_uint8, c_uint8, c_uint32, POINTER(c_uint16), c_size_t, POINTER(Node)]),
+    # Makes the same replica of the same group as before of what was found in its journal, and puts
+    # it into a place, which then is a handle. No byte at all is a new journal. Told is how many of
+    # the bytes the journal is to keep: behind them stands what a crash left of a record, which is
+    # to be cut off, on the disk, before anything is put behind. Objects are added anew, and all
+    # updates are handed over anew.
+    #
+    # In this order: as `lattice_node_new` ends, and NO_JOURNAL, OTHER_JOURNAL and DAMAGED, and then
+    # the line is told, from 1. Then the place is as before.
+    ("lattice_node_recover", c_uint8, [
+        c_uint8,
+        c_uint8,
+        c_uint8,
+        c_uint32,
+        POINTER(c_uint16),
+        c_size_t,
+        POINTER(c_uint8),
+        c_size_t,
+        POINTER(c_size_t),
+        POINTER(c_size_t),
+        POINTER(Node),
+    ]),
     # Frees a node. The handle, and each copy of it, is then no handle.
     ("lattice_node_free", None, [Node]),
     # Adds an object under a number: of kind 0 a counter, of kind 1 a max register, of kind 2 an
@@ -160,7 +198,8 @@ CALLS = [
     # BAD_KIND comes for any other kind, TAKEN where the number has an object, and else MEMORY.
     ("lattice_add", c_uint8, [POINTER(Node), c_uint16, c_uint8]),
     # Submits an addition to a counter, and answers the update's number. What is to be sent of it
-    # waits then.
+    # waits then. A node with a journal may have lost it after a crash, until its record is on the
+    # disk; so it is of all that it takes.
     #
     # FULL comes where the node has submitted its cap, and else MEMORY or BALLOTS_SPENT; so it is of
     # each call that submits.
@@ -198,10 +237,12 @@ CALLS = [
     # What the node returned from an adopt-commit object: the value, and whether it is committed (1)
     # or adopted (0).
     #
-    # NONE comes where it has returned nothing yet, or there is no such object.
+    # NONE comes where it has returned nothing yet, or there is no such object; UNKEPT where what
+    # the node took is not on the disk yet.
     ("lattice_outcome", c_uint8, [POINTER(Node), c_uint8, POINTER(c_uint64), POINTER(c_uint8)]),
     # Takes the line of a message of another node, without its end, honest or not. What is to be
-    # sent then waits.
+    # sent then waits: of a message without news, or that stands on updates which this node does not
+    # have, how far this node is.
     #
     # TOO_LONG, BAD_LINE and BAD_NUMBER come where the bytes are no line of a message, NO_MESSAGE
     # where it is what a client asks, ELSEWHERE where it is for another node or group; any other
@@ -212,27 +253,46 @@ CALLS = [
     # itself is taken in before.
     #
     # NONE comes where nothing is to be sent; SMALL where the buffer has less room than the line has
-    # bytes, which are told, and the line stays; MEMORY, and it stays.
+    # bytes, which are told, and the line stays; MEMORY, and it stays; UNKEPT where what the node
+    # took is not on the disk yet.
     ("lattice_next_mail", c_uint8, [POINTER(Node), POINTER(c_uint8), POINTER(c_uint8), c_size_t, POINTER(c_size_t)]),
     # What waits for an answer is put behind what is to be sent once more, but for what others are
-    # known to have. A host calls it by a timer.
+    # known to have. By a timer, at each node: one call may not do. Where all is known, it sends
+    # nothing.
     ("lattice_again", c_uint8, [POINTER(Node)]),
+    # The bytes that the program has to put behind those of the node's journal next, into a buffer,
+    # and how many they are: all that the node took since the last record. What it sends to itself
+    # is taken in before. They are the same again until `lattice_synced`. A crash while they are put
+    # there may leave any part of them.
+    #
+    # NONE comes where the node took nothing since, or has no journal; SMALL where the buffer has
+    # less room than there are bytes, which are told.
+    ("lattice_next_record", c_uint8, [POINTER(Node), POINTER(c_uint8), c_size_t, POINTER(c_size_t)]),
+    # Takes note that the bytes of the last record are behind those of the journal, and on the disk:
+    # then the node tells what it took. Where that failed the node is to be freed, and made anew of
+    # what is found.
+    #
+    # NONE comes where no record was handed over since the last call.
+    ("lattice_synced", c_uint8, [POINTER(Node)]),
     # The next update that was learnt and not yet handed over: each is handed over once, of each
     # replica in the order of numbers. Of an operation of one's own the bytes go into a buffer, and
     # how many they are is told.
     #
     # NONE comes where there is no further one; SMALL where the buffer has less room than there are
-    # bytes, and then the update stays.
+    # bytes, and then the update stays; UNKEPT where what the node took is not on the disk yet.
     ("lattice_next_learnt", c_uint8, [POINTER(Node), POINTER(Learnt), POINTER(c_uint8), c_size_t, POINTER(c_size_t)]),
-    # How many updates of each replica the view has.
-    ("lattice_view", None, [POINTER(Node), POINTER(c_uint32 * 8)]),
+    # How many updates of each replica the view has. UNKEPT comes where what the node took is not on
+    # the disk yet.
+    ("lattice_view", c_uint8, [POINTER(Node), POINTER(c_uint32 * 8)]),
     # How many updates of each replica another node's view has at least, as far as was heard: none,
-    # of a replica of 8 or more.
-    ("lattice_known", None, [POINTER(Node), c_uint8, POINTER(c_uint32 * 8)]),
-    # How many updates the node has submitted: the number of the last.
-    ("lattice_submitted", c_uint32, [POINTER(Node)]),
+    # of a replica of 8 or more. UNKEPT comes where what the node took is not on the disk yet.
+    ("lattice_known", c_uint8, [POINTER(Node), c_uint8, POINTER(c_uint32 * 8)]),
+    # How many updates the node has submitted: the number of the last. UNKEPT comes where what the
+    # node took is not on the disk yet.
+    ("lattice_submitted", c_uint8, [POINTER(Node), POINTER(c_uint32)]),
     # A counter's total: its increments less its decrements. NO_OBJECT comes where there is no such
-    # object, FOREIGN where it is of another kind, and MEMORY; so it is of each question.
+    # object, FOREIGN where it is of another kind, UNKEPT where what the node took is not on the
+    # disk yet, and MEMORY; so it is of each question.
     ("lattice_total", c_uint8, [POINTER(Node), c_uint16, POINTER(c_int64)]),
     # Whether (1) or not (0) a counter's total is at least a number.
     ("lattice_at_least", c_uint8, [POINTER(Node), c_uint16, c_uint64, POINTER(c_uint8)]),

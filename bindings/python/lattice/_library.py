@@ -27,7 +27,8 @@ def load() -> ctypes.CDLL:
             library = ctypes.CDLL(str(place))
             _calls.declare(library)
             return library
-    raise ImportError("there is no liblattice.so: bindings/build makes it, or LATTICE_LIBRARY names it")
+    looked = " and no ".join(map(str, places()))
+    raise ImportError(f"LATTICE_LIBRARY has to name liblattice.so, or bindings/build to make it: there is no {looked}")
 
 
 LIBRARY = load()

@@ -4,9 +4,11 @@ from __future__ import annotations
 
 
 class LatticeError(Exception):
-    """Why a call was refused. The node is then as before. `status` is the library's number."""
+    """Why a call was refused. The node is then as before. `status` is the library's number, and `line` of a damaged
+    journal the line from which on it can't be played, from 1."""
 
     status = 0
+    line = 0
     text = ""
 
     def __str__(self) -> str:
@@ -151,10 +153,14 @@ class NoMessageError(LatticeError):
 
 
 class TooLongError(LatticeError):
-    """The line is longer than a message may be."""
+    """The line has more bytes than a message may have: 268,435,455 where it begins with n, o or t,
+    else 16,777,216."""
 
     status = 22
-    text = "the line is longer than a message may be"
+    text = (
+        "the line has more bytes than a message may have: 268,435,455 where it begins with n, o or t, "
+        "else 16,777,216"
+    )
 
 
 class BadLineError(LatticeError):
@@ -192,6 +198,38 @@ class AheadError(LatticeError):
     text = "the node has submitted nothing under this number, and it is not the next"
 
 
+class UnkeptError(LatticeError):
+    """The node took something that is not on the disk yet: its record is to be written first."""
+
+    status = 28
+    text = "the node took something that is not on the disk yet: its record is to be written first"
+
+
+class NoJournalError(LatticeError):
+    """The bytes are no journal of this version, or their first line is damaged."""
+
+    status = 29
+    text = "the bytes are no journal of this version, or their first line is damaged"
+
+
+class OtherJournalError(LatticeError):
+    """The journal is that of another replica or of another group."""
+
+    status = 30
+    text = "the journal is that of another replica or of another group"
+
+
+class DamagedError(LatticeError):
+    """The journal is damaged at a line that is told. No older copy may be put in its place: the
+    replica stays away."""
+
+    status = 31
+    text = (
+        "the journal is damaged at a line that is told. No older copy may be put in its place: the "
+        "replica stays away"
+    )
+
+
 # The exceptions by the library's numbers.
 ERRORS: dict[int, type[LatticeError]] = {
     1: OutOfMemoryError,
@@ -219,6 +257,10 @@ ERRORS: dict[int, type[LatticeError]] = {
     25: BadKindError,
     26: StaleError,
     27: AheadError,
+    28: UnkeptError,
+    29: NoJournalError,
+    30: OtherJournalError,
+    31: DamagedError,
 }
 
 

@@ -5,7 +5,7 @@ from collections.abc import Iterator
 from dataclasses import dataclass
 
 from .errors import TooLargeError
-from .node import OWN_BYTES, Operation, Update
+from .values import OWN_BYTES, Operation, Update
 
 # How many bytes a key and its value may have together.
 KEYED_BYTES = OWN_BYTES - 9
@@ -34,7 +34,7 @@ class WriteMap:
 
     @staticmethod
     def write(stamp: int, key: bytes, value: bytes) -> bytes:
-        """The operation that writes a value, for `Node.own`: the stamp in eight bytes, the lowest first, the key's
+        """The operation that writes a value, for `own`: the stamp in eight bytes, the lowest first, the key's
         length, the key and the value, as `la_types::WriteMap` in Rattle has it.
 
         `TooLargeError` comes exactly where key and value have more than `KEYED_BYTES` bytes.

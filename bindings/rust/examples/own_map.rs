@@ -1,7 +1,7 @@
 //! A map of one's own on three nodes, in which the last write to a key wins: `cargo run --example
 //! own_map`. `src/write_map.rs` has the map.
 
-use lattice_agreement::{Config, Error, Node, WriteMap};
+use lattice_agreement::{Ask, Config, Error, Node, Submit, WriteMap};
 
 const SETTINGS: u16 = 1;
 
@@ -20,8 +20,8 @@ impl Member {
 
     /// Writes under a stamp that is above those of all writes that this member has seen.
     fn write(&mut self, key: &str, value: &str) -> Result<(), Error> {
-        self.node.absorb_into(&mut self.settings);
-        let stamp = 1 + self.node.view().map(u64::from).iter().sum::<u64>();
+        self.node.absorb_into(&mut self.settings)?;
+        let stamp = 1 + self.node.view()?.map(u64::from).iter().sum::<u64>();
         let write = WriteMap::write(stamp, key.as_bytes(), value.as_bytes())?;
         self.node.own(SETTINGS, &write)?;
         Ok(())
@@ -51,7 +51,7 @@ fn main() -> Result<(), Error> {
     group[0].write("colour", "blue")?;
     deliver_all(&mut group)?;
     for (own, member) in group.iter_mut().enumerate() {
-        member.node.absorb_into(&mut member.settings);
+        member.node.absorb_into(&mut member.settings)?;
         let text = |bytes| String::from_utf8_lossy(bytes).into_owned();
         let settings: Vec<String> = member
             .settings

@@ -1,6 +1,6 @@
 //! Three nodes in one process: `cargo run --example three_nodes`.
 
-use lattice_agreement::{Config, Error, Kind, Node};
+use lattice_agreement::{Ask, Config, Error, Kind, Node, Submit};
 
 const VISITS: u16 = 1;
 const TAGS: u16 = 2;
@@ -41,7 +41,7 @@ fn main() -> Result<(), Error> {
     deliver_all(&mut group)?;
     for (own, node) in group.iter().enumerate() {
         let (total, tags) = (node.total(VISITS)?, node.items(TAGS)?);
-        println!("node {own}: {total} visits, tags {tags:?}, {:?}", node.outcome(0));
+        println!("node {own}: {total} visits, tags {tags:?}, {:?}", node.outcome(0)?);
     }
     Ok(())
 }

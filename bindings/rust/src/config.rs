@@ -2,6 +2,10 @@ use crate::sys;
 
 /// The group, and which of its replicas a node is. All nodes of a group have the same, but for `own`.
 ///
+/// **Nothing checks that, but of `replicas`**: a line from a group of another size is refused with
+/// [`Error::Elsewhere`](crate::Error::Elsewhere). Where the nodes of a group differ in `commits`, `cap`
+/// or `votes`, no guarantee is left.
+///
 /// ```
 /// use lattice_agreement::Config;
 ///
@@ -33,10 +37,10 @@ impl Config {
 #[derive(Clone, Copy, Debug, PartialEq, Eq, Hash)]
 #[repr(u8)]
 pub enum Kind {
-    /// A counter: [`inc`](crate::Node::inc), [`dec`](crate::Node::dec).
+    /// A counter: [`inc`](crate::Submit::inc), [`dec`](crate::Submit::dec).
     Counter = sys::COUNTER,
-    /// A max register: [`raise`](crate::Node::raise).
+    /// A max register: [`raise`](crate::Submit::raise).
     MaxRegister = sys::MAX_REGISTER,
-    /// An observed-remove set: [`put`](crate::Node::put), [`remove`](crate::Node::remove).
+    /// An observed-remove set: [`put`](crate::Submit::put), [`remove`](crate::Submit::remove).
     OrSet = sys::OR_SET,
 }

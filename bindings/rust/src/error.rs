@@ -47,7 +47,8 @@ pub enum Error {
     Elsewhere,
     /// The line is something that clients ask of a node, and no message.
     NoMessage,
-    /// The line is longer than a message may be.
+    /// The line has more bytes than a message may have: 268,435,455 where it begins with n, o or t,
+    /// else 16,777,216.
     TooLong,
     /// The line does not have the form of a message.
     BadLine,
@@ -59,6 +60,15 @@ pub enum Error {
     Stale,
     /// The node has submitted nothing under this number, and it is not the next.
     Ahead,
+    /// The node took something that is not on the disk yet: its record is to be written first.
+    Unkept,
+    /// The bytes are no journal of this version, or their first line is damaged.
+    NoJournal,
+    /// The journal is that of another replica or of another group.
+    OtherJournal,
+    /// The journal is damaged at a line that is told. No older copy may be put in its place: the
+    /// replica stays away.
+    Damaged,
     /// The library answered a status that this crate does not know.
     Unknown(u8),
 }
@@ -97,7 +107,9 @@ impl Error {
                 "the message is for another replica, or for a group of another size"
             }
             Error::NoMessage => "the line is something that clients ask of a node, and no message",
-            Error::TooLong => "the line is longer than a message may be",
+            Error::TooLong => {
+                "the line has more bytes than a message may have: 268,435,455 where it begins with n, o or t, else 16,777,216"
+            }
             Error::BadLine => "the line does not have the form of a message",
             Error::BadNumber => "a number in the line is malformed or out of its range",
             Error::BadKind => {
@@ -106,6 +118,16 @@ impl Error {
             Error::Stale => "the node has submitted something else under this number",
             Error::Ahead => {
                 "the node has submitted nothing under this number, and it is not the next"
+            }
+            Error::Unkept => {
+                "the node took something that is not on the disk yet: its record is to be written first"
+            }
+            Error::NoJournal => {
+                "the bytes are no journal of this version, or their first line is damaged"
+            }
+            Error::OtherJournal => "the journal is that of another replica or of another group",
+            Error::Damaged => {
+                "the journal is damaged at a line that is told. No older copy may be put in its place: the replica stays away"
             }
             Error::Unknown(_) => "no status here",
         }
@@ -140,6 +162,10 @@ impl Error {
             sys::BAD_KIND => Error::BadKind,
             sys::STALE => Error::Stale,
             sys::AHEAD => Error::Ahead,
+            sys::UNKEPT => Error::Unkept,
+            sys::NO_JOURNAL => Error::NoJournal,
+            sys::OTHER_JOURNAL => Error::OtherJournal,
+            sys::DAMAGED => Error::Damaged,
             other => Error::Unknown(other),
         })
     }

@@ -13,9 +13,17 @@
 //! - The program's malloc, realloc and free are one allocator. No call is made from a signal
 //!   handler, nor in a process that was forked after the node was made: the node would be there
 //!   twice under one number.
-//! - A node keeps nothing on a disk. So once a node was stopped or lost, none may ever come back
-//!   under its number in its group: it would give an id to two updates, or accept what it had
-//!   refused. The others go on while they are a majority.
+//! - Whatever carries the lines of messages may lose, repeat and reorder them. It never shortens or
+//!   changes one: what is left may be another valid message, and then nodes differ without a word.
+//!   What a broken connection left of a line is dropped.
+//! - A node that [`lattice_node_new`] made keeps nothing on a disk. So once it was stopped or lost,
+//!   none may ever come back under its number in its group: it would give an id to two updates, or
+//!   accept what it had refused. The others go on while they are a majority. The same holds of a
+//!   node whose journal was lost, or went back to an earlier state.
+//! - Of a node that [`lattice_node_recover`] made, the program's file has the bytes that were
+//!   found, up to where they were to be kept, and behind them each record that lattice_next_record
+//!   handed over, in their order: on the disk, before lattice_synced is called. One process at a
+//!   time has it.
 
 #![allow(non_camel_case_types)]
 
@@ -23,7 +31,7 @@ use std::ffi::c_void;
 use std::mem::{offset_of, size_of};
 
 /// The version of the interface: [`lattice_version`] answers the library's.
-pub const VERSION: u32 = 1;
+pub const VERSION: u32 = 2;
 
 /// A handle: one pointer, which is the library's.
 #[repr(C)]
@@ -111,7 +119,8 @@ pub const ALREADY_PROPOSED: u8 = 19;
 pub const ELSEWHERE: u8 = 20;
 /// The line is something that clients ask of a node, and no message.
 pub const NO_MESSAGE: u8 = 21;
-/// The line is longer than a message may be.
+/// The line has more bytes than a message may have: 268,435,455 where it begins with n, o or t,
+/// else 16,777,216.
 pub const TOO_LONG: u8 = 22;
 /// The line does not have the form of a message.
 pub const BAD_LINE: u8 = 23;
@@ -123,6 +132,15 @@ pub const BAD_KIND: u8 = 25;
 pub const STALE: u8 = 26;
 /// The node has submitted nothing under this number, and it is not the next.
 pub const AHEAD: u8 = 27;
+/// The node took something that is not on the disk yet: its record is to be written first.
+pub const UNKEPT: u8 = 28;
+/// The bytes are no journal of this version, or their first line is damaged.
+pub const NO_JOURNAL: u8 = 29;
+/// The journal is that of another replica or of another group.
+pub const OTHER_JOURNAL: u8 = 30;
+/// The journal is damaged at a line that is told. No older copy may be put in its place: the
+/// replica stays away.
+pub const DAMAGED: u8 = 31;
 
 /// A counter: inc, dec, total, at_least.
 pub const COUNTER: u8 = 0;
@@ -169,6 +187,28 @@ unsafe extern "C" {
         out: *mut lattice_node,
     ) -> u8;
 
+    /// Makes the same replica of the same group as before of what was found in its journal, and
+    /// puts it into a place, which then is a handle. No byte at all is a new journal. Told is how
+    /// many of the bytes the journal is to keep: behind them stands what a crash left of a record,
+    /// which is to be cut off, on the disk, before anything is put behind. Objects are added anew,
+    /// and all updates are handed over anew.
+    ///
+    /// In this order: as `lattice_node_new` ends, and [`NO_JOURNAL`], [`OTHER_JOURNAL`] and
+    /// [`DAMAGED`], and then the line is told, from 1. Then the place is as before.
+    pub fn lattice_node_recover(
+        replicas: u8,
+        own: u8,
+        commits: u8,
+        cap: u32,
+        votes: *const u16,
+        votes_len: usize,
+        found: *const u8,
+        found_len: usize,
+        keep: *mut usize,
+        line: *mut usize,
+        out: *mut lattice_node,
+    ) -> u8;
+
     /// Frees a node. The handle, and each copy of it, is then no handle.
     pub fn lattice_node_free(handle: lattice_node);
 
@@ -180,7 +220,8 @@ unsafe extern "C" {
     pub fn lattice_add(handle: *mut lattice_node, object: u16, kind: u8) -> u8;
 
     /// Submits an addition to a counter, and answers the update's number. What is to be sent of it
-    /// waits then.
+    /// waits then. A node with a journal may have lost it after a crash, until its record is on the
+    /// disk; so it is of all that it takes.
     ///
     /// [`FULL`] comes where the node has submitted its cap, and else [`MEMORY`] or
     /// [`BALLOTS_SPENT`]; so it is of each call that submits.
@@ -251,7 +292,8 @@ unsafe extern "C" {
     /// What the node returned from an adopt-commit object: the value, and whether it is committed
     /// (1) or adopted (0).
     ///
-    /// [`NONE`] comes where it has returned nothing yet, or there is no such object.
+    /// [`NONE`] comes where it has returned nothing yet, or there is no such object; [`UNKEPT`]
+    /// where what the node took is not on the disk yet.
     pub fn lattice_outcome(
         handle: *mut lattice_node,
         commit: u8,
@@ -260,7 +302,8 @@ unsafe extern "C" {
     ) -> u8;
 
     /// Takes the line of a message of another node, without its end, honest or not. What is to be
-    /// sent then waits.
+    /// sent then waits: of a message without news, or that stands on updates which this node does
+    /// not have, how far this node is.
     ///
     /// [`TOO_LONG`], [`BAD_LINE`] and [`BAD_NUMBER`] come where the bytes are no line of a message,
     /// [`NO_MESSAGE`] where it is what a client asks, [`ELSEWHERE`] where it is for another node or
@@ -272,7 +315,8 @@ unsafe extern "C" {
     /// itself is taken in before.
     ///
     /// [`NONE`] comes where nothing is to be sent; [`SMALL`] where the buffer has less room than
-    /// the line has bytes, which are told, and the line stays; [`MEMORY`], and it stays.
+    /// the line has bytes, which are told, and the line stays; [`MEMORY`], and it stays; [`UNKEPT`]
+    /// where what the node took is not on the disk yet.
     pub fn lattice_next_mail(
         handle: *mut lattice_node,
         to: *mut u8,
@@ -282,15 +326,38 @@ unsafe extern "C" {
     ) -> u8;
 
     /// What waits for an answer is put behind what is to be sent once more, but for what others are
-    /// known to have. A host calls it by a timer.
+    /// known to have. By a timer, at each node: one call may not do. Where all is known, it sends
+    /// nothing.
     pub fn lattice_again(handle: *mut lattice_node) -> u8;
+
+    /// The bytes that the program has to put behind those of the node's journal next, into a
+    /// buffer, and how many they are: all that the node took since the last record. What it sends
+    /// to itself is taken in before. They are the same again until `lattice_synced`. A crash while
+    /// they are put there may leave any part of them.
+    ///
+    /// [`NONE`] comes where the node took nothing since, or has no journal; [`SMALL`] where the
+    /// buffer has less room than there are bytes, which are told.
+    pub fn lattice_next_record(
+        handle: *mut lattice_node,
+        buffer: *mut u8,
+        buffer_room: usize,
+        len: *mut usize,
+    ) -> u8;
+
+    /// Takes note that the bytes of the last record are behind those of the journal, and on the
+    /// disk: then the node tells what it took. Where that failed the node is to be freed, and made
+    /// anew of what is found.
+    ///
+    /// [`NONE`] comes where no record was handed over since the last call.
+    pub fn lattice_synced(handle: *mut lattice_node) -> u8;
 
     /// The next update that was learnt and not yet handed over: each is handed over once, of each
     /// replica in the order of numbers. Of an operation of one's own the bytes go into a buffer,
     /// and how many they are is told.
     ///
     /// [`NONE`] comes where there is no further one; [`SMALL`] where the buffer has less room than
-    /// there are bytes, and then the update stays.
+    /// there are bytes, and then the update stays; [`UNKEPT`] where what the node took is not on
+    /// the disk yet.
     pub fn lattice_next_learnt(
         handle: *mut lattice_node,
         out: *mut lattice_learnt,
@@ -299,19 +366,22 @@ unsafe extern "C" {
         len: *mut usize,
     ) -> u8;
 
-    /// How many updates of each replica the view has.
-    pub fn lattice_view(handle: *mut lattice_node, counts: *mut [u32; 8]);
+    /// How many updates of each replica the view has. [`UNKEPT`] comes where what the node took is
+    /// not on the disk yet.
+    pub fn lattice_view(handle: *mut lattice_node, counts: *mut [u32; 8]) -> u8;
 
     /// How many updates of each replica another node's view has at least, as far as was heard:
-    /// none, of a replica of 8 or more.
-    pub fn lattice_known(handle: *mut lattice_node, replica: u8, counts: *mut [u32; 8]);
+    /// none, of a replica of 8 or more. [`UNKEPT`] comes where what the node took is not on the
+    /// disk yet.
+    pub fn lattice_known(handle: *mut lattice_node, replica: u8, counts: *mut [u32; 8]) -> u8;
 
-    /// How many updates the node has submitted: the number of the last.
-    pub fn lattice_submitted(handle: *mut lattice_node) -> u32;
+    /// How many updates the node has submitted: the number of the last. [`UNKEPT`] comes where what
+    /// the node took is not on the disk yet.
+    pub fn lattice_submitted(handle: *mut lattice_node, number: *mut u32) -> u8;
 
     /// A counter's total: its increments less its decrements. [`NO_OBJECT`] comes where there is no
-    /// such object, [`FOREIGN`] where it is of another kind, and [`MEMORY`]; so it is of each
-    /// question.
+    /// such object, [`FOREIGN`] where it is of another kind, [`UNKEPT`] where what the node took is
+    /// not on the disk yet, and [`MEMORY`]; so it is of each question.
     pub fn lattice_total(handle: *mut lattice_node, object: u16, total: *mut i64) -> u8;
 
     /// Whether (1) or not (0) a counter's total is at least a number.

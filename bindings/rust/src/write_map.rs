@@ -14,7 +14,7 @@ type Write = (u64, (u8, u32), Vec<u8>);
 /// A good stamp is one more than the largest that the writer knows, or its clock's time.
 ///
 /// ```
-/// use lattice_agreement::{Config, Error, Node, WriteMap};
+/// use lattice_agreement::{Ask, Config, Error, Node, Submit, WriteMap};
 ///
 /// # fn main() -> Result<(), Error> {
 /// let mut node = Node::new(&Config::new(1, 0))?;
@@ -22,7 +22,7 @@ type Write = (u64, (u8, u32), Vec<u8>);
 /// node.own(7, &WriteMap::write(1, b"colour", b"red")?)?;
 /// node.own(7, &WriteMap::write(2, b"colour", b"blue")?)?;
 /// assert!(node.next_mail()?.is_none()); // a group of one learns by itself
-/// node.absorb_into(&mut map);
+/// node.absorb_into(&mut map)?;
 /// assert_eq!(map.get(b"colour"), Some(&b"blue"[..]));
 /// # Ok(())
 /// # }
@@ -39,7 +39,7 @@ impl WriteMap {
         WriteMap { object, last: BTreeMap::new() }
     }
 
-    /// The operation that writes a value, for [`Node::own`](crate::Node::own): the stamp in eight
+    /// The operation that writes a value, for [`Submit::own`](crate::Submit::own): the stamp in eight
     /// bytes, the lowest first, the key's length, the key and the value, as `la_types::WriteMap` in
     /// Rattle has it.
     ///

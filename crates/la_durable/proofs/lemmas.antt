@@ -1,1 +1,2 @@
 pub mod OwnLines
+pub mod Kept

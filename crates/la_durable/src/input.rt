@@ -43,11 +43,13 @@ impl Input {
         }
     }
 
-    // The input of a line that says this call; none, where no journal may have it.
-    pub(crate) fn of(alloc: Global, line: &[u8], call: Call) -> Result<Option<Input>, AllocError>
+    /// The input of a line that says this call; `None` where no journal may have it. Linear in the line, which is
+    /// copied.
+    pub fn of(alloc: Global, line: &[u8], call: Call) -> Result<Option<Input>, AllocError>
         requires { named_call line.now ≡ Some (called call) }
         ensures some { IfOk result (λ o. IfSome o (λ input.
             (input.line ≡ line.now) × (is_line line.now ≡ true))) }
+        ensures call { IfOk result (λ o. IfSome o (λ input. input.call ≡ call)) }
         ensures none { IfOk result (λ o. o ≡ None → may_stand line.now ≡ false) }
     {
         if !may_stand(line) {

@@ -245,6 +245,8 @@ impl Machine for NodeMachine {
 
     ghost lacks_memory = { IsForMemory };
 
+    ghost refuses = { λ r i. IsActRefusal r i.call };
+
     ghost head = { node_head };
 
     ghost round_trip = { call_round_trip };

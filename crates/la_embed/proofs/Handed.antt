@@ -1,5 +1,5 @@
 -- Each update of a view is handed on once.
-use Rattle.std.proofs.Common.{◌≡◌, inl, inr, ℕ, ◌+◌, ◌-◌, ◌<◌, ◌==◌, Bool, cond, List, [], ◌∷◌, Option, Some, None}
+use Rattle.std.proofs.Common.{◌≡◌, inl, inr, ℕ, ◌+◌, ◌-◌, ◌<◌, ◌==◌, Bool, cond, List, [], ◌∷◌, Some}
 use Rattle.std.proofs.Common.{drop, slice_get, refl, sym, ap, subst, ◌∙◌, arith}
 use Rattle.std.proofs.lemmas.Bool.{cases_lt, cases_eq, eq-eqb, ne_eqb}
 use Rattle.std.proofs.lemmas.List.{drop_all}
@@ -13,31 +13,15 @@ use Rattle.la_set.proofs.lemmas.NumberedLists.{length-numbered}
 use Rattle.la_set.proofs.lemmas.Places.{numbered-get}
 use Rattle.la_set.proofs.lemmas.SetHistories.{known_from_count}
 use Rattle.la_object.proofs.lemmas.IdMaps.{drop_some}
-use Rattle.la_embed.specs.Learnt.{IsNextOf, IsNextId, handed_with, handed_after}
+use Rattle.la_embed.specs.Learnt.{handed_with}
 use Rattle.la_embed.specs.Learnt.{Handing, IsHandedIn, AreHandedOn, handed_of, EachIsHandedOnce}
 
--- ## What comes next is one update
-
-same_next : (handed : Counts) (view : Histories) (a : UpdateId) (o : Option UpdateId) → IsNextOf handed view a
-    → IsNextId handed view o → o ≡ Some a
-same_next handed view a None is none = absurd (omega (arith, none a.replica, is.number, is.there))
-same_next handed view a (Some b) is other = elim (cases_lt a.replica b.replica) [
-  | inl lt ↦ absurd (omega (arith, other.first a.replica lt, is.number, is.there))
-  | inr le ↦ elim (cases_eq b.replica a.replica) [
-    | inl same ↦
-        let number : b.number ≡ a.number = other.number ∙ ap (λ r. count_in handed r + 1) same ∙ sym is.number in
-        λ k. Some (record { replica = same k; number = number k })
-    | inr ne ↦ elim (cases_lt b.replica a.replica) [
-      | inl lt ↦ absurd (omega (arith, is.first b.replica lt, other.number, other.there))
-      | inr ge ↦ absurd (ne (omega (arith, le, ge)))
-    ]
-  ]
-]
-
--- so what is noted is that one
+-- what is noted is the update that came next
 noted_so : (before after : Counts) (h : Handing) → IsHandedIn before h after → after ≡ handed_with before h.update.id
 noted_so before after h is =
-    is.noted.2 ∙ ap (handed_after before) (same_next before h.view h.update.id is.noted.0 is.next.0 is.noted.1)
+    is.noted
+    ∙ ap (λ b. cond b (handed_with before h.update.id) before)
+    (eq-eqb h.update.id.number (count_in before h.update.id.replica + 1) is.next.0.number)
 
 -- ## How many were handed on
 

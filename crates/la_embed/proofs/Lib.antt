@@ -1,7 +1,10 @@
 pub mod Lists
 pub mod Growing
-pub mod Told
 pub mod Numbering
 pub mod Handed
 pub mod Stepping
 pub mod Together
+pub mod Crashing
+pub mod JournalSteps
+pub mod Restarting
+pub mod lemmas

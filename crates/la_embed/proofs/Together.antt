@@ -14,7 +14,7 @@ use Rattle.la_replica.specs.ReplicaState.{ReplicaState, start}
 use Rattle.la_node.specs.declared.link.Letter.{Letter}
 use Rattle.la_node.specs.declared.link.Links.{Links}
 use Rattle.la_node.specs.declared.link.Standing.{Standing}
-use Rattle.la_node.specs.Links.{letters_of, is_owed, standing_of}
+use Rattle.la_node.specs.Links.{letters_of, is_owed, standing_of, wants_standing}
 use Rattle.la_node.specs.Steps.{Given}
 use Rattle.la_wire.specs.declared.error.LineFault.{LineFault}
 use Rattle.la_wire.specs.declared.error.LineFault.TheVariants.{TooLong}
@@ -27,12 +27,12 @@ use Rattle.la_world.specs.Calls.{replica_states_at_start}
 use Rattle.la_world.specs.LiveGroups.{LearntSet}
 use Rattle.la_world.specs.Together.{AreTogether, NewReplicasAreTogether, CallsKeepTogether, RepeatsKeepTogether}
 use Rattle.la_world.specs.Together.{ViewsTogetherAreComparable, CommitsTogetherAgree}
-use Rattle.la_world.proofs.lemmas.Letters.{mapped_from, mapped_has}
+use Rattle.la_world.proofs.lemmas.Letters.{mapped_has}
 use Rattle.la_embed.specs.declared.outgoing.Outgoing.{Outgoing}
 use Rattle.la_embed.specs.declared.outgoing.Outgoing.TheVariants as out
 use Rattle.la_embed.specs.Hosts.{HostState, IsHostStep, IsPostedAgain, IsPosted, IsToldBack}
-use Rattle.la_embed.specs.Hosts.{host_of, with_mail, with_letters}
-use Rattle.la_embed.specs.Receiving.{TakesHostLine, TakesRead, IsTaken, BringsOwn, own_first, links_by, brings_nothing}
+use Rattle.la_embed.specs.Hosts.{host_of, with_mail, with_letter, with_letters}
+use Rattle.la_embed.specs.Receiving.{TakesHostLine, TakesRead, IsTaken, BringsOwn, own_first, links_by}
 use Rattle.la_embed.specs.Together.{kept_of_hosts, AreHostsTogether, AreStillTogether, IsLineOfSent}
 use Rattle.la_embed.specs.Together.{IsCallOfSent, learnt_by_host, NewHostsAreTogether, StepsKeepHostsTogether}
 use Rattle.la_embed.specs.Together.{LinesKeepHostsTogether, OwnMailKeepsHostsTogether, RepeatsKeepHostsTogether}
@@ -72,7 +72,7 @@ set_each P (x ∷ xs) (suc r) m all here (suc s) k e =
 -- ## What waits
 
 -- each letter that waits is one of these
-abbrev AreSent : List Outgoing → List Letter → Type 0
+abbrev pub AreSent : List Outgoing → List Letter → Type 0
 AreSent mail letters = (letter : Letter) → Contains mail (out.Letter letter) → Contains letters letter
 
 letter_same : (a b : Letter) → out.Letter a ≡ out.Letter b → a ≡ b
@@ -123,22 +123,44 @@ own_waits q (out.Letter letter ∷ mail) own e =
     (where_own (letter.parcel.to == q.own) letter own e) (Contains-first (out.Letter letter) mail)
 own_waits q (out.Standing standing ∷ mail) own e = absurd (none-some own e)
 
-put_behind : (before : List Outgoing) (letters more : List Letter) → AreSent before letters
-    → AreSent (with_letters before more) (letters ++ more)
-put_behind before letters more sent letter has = elim (Contains-append_cases before (map out.Letter more) (out.Letter
-    letter) has) [
-      | inl old ↦ Contains-append_left letters more letter (sent letter old)
-      | inr new ↦
-          let from = mapped_from out.Letter more (out.Letter letter) new in
-          Contains-append_right letters more letter (subst (Contains more) (letter_same from.0 letter from.2) from.1)
+-- a letter that was sent is put before or behind
+put_one : (is_own : Bool) (before : List Outgoing) (letter : Letter) (letters : List Letter) → AreSent before letters
+    → Contains letters letter
+    → AreSent (cond is_own (out.Letter letter ∷ before) (before ++ out.Letter letter ∷ [])) letters
+put_one true before letter letters sent there l has =
+    elim (Contains-cons_cases (out.Letter letter) before (out.Letter l) has) [
+      | inl same ↦ subst (Contains letters) (letter_same letter l same) there
+      | inr old ↦ sent l old
     ]
+put_one false before letter letters sent there l has =
+    elim (Contains-append_cases before (out.Letter letter ∷ []) (out.Letter l) has) [
+      | inl old ↦ sent l old
+      | inr new ↦ elim (Contains-cons_cases (out.Letter letter) [] (out.Letter l) new) [
+        | inl same ↦ subst (Contains letters) (letter_same letter l same) there
+        | inr none ↦ absurd (Contains-none (out.Letter l) none)
+      ]
+    ]
+
+put_all : (own : ℕ) (more : List Letter) (before : List Outgoing) (letters : List Letter)
+    → ((l : Letter) → Contains more l → Contains letters l) → AreSent before letters
+    → AreSent (with_letters own before more) letters
+put_all own [] before letters all sent = sent
+put_all own (m ∷ more) before letters all sent =
+    put_all own more (with_letter own before m) letters (λ l has. all l (Contains-later m more l has))
+    (put_one (m.parcel.to == own) before m letters sent (all m (Contains-first m more)))
+
+put_behind : (own : ℕ) (before : List Outgoing) (letters more : List Letter) → AreSent before letters
+    → AreSent (with_letters own before more) (letters ++ more)
+put_behind own before letters more sent =
+    put_all own more before (letters ++ more) (λ l has. Contains-append_right letters more l has)
+    (λ l has. Contains-append_left letters more l (sent l has))
 
 posted : (heard : Links) (made : ReplicaState) (sent : List code.Message) (before mail : List Outgoing)
     (letters : List Letter) → AreSent before letters → IsPosted heard made sent before mail
     → AreSent mail (letters ++ letters_of heard made sent)
 posted heard made sent before mail letters old (inl put) =
     subst (λ ms. AreSent ms (letters ++ letters_of heard made sent)) (sym put)
-    (put_behind before letters (letters_of heard made sent) old)
+    (put_behind made.own before letters (letters_of heard made sent) old)
 posted heard made sent before mail letters old (inr lost) =
     λ letter has.
     Contains-append_left letters (letters_of heard made sent) letter
@@ -169,7 +191,7 @@ module _ (hosts : List HostState) (letters : List Letter) (learnt : List LearntS
   own : before.kept.own ≡ r
   own = are.places r before at
 
-  waiting : AreSent before.mail letters
+  pub waiting : AreSent before.mail letters
   waiting letter has = are.sent r before letter at has
 
   -- once one of them is this, with letters more
@@ -196,7 +218,7 @@ module _ (hosts : List HostState) (letters : List Letter) (learnt : List LearntS
       with_more after more learnt (subst (λ ss. AreTogether ss (letters ++ more) learnt) states together)
       (ap (λ (q : ReplicaState). q.own) same ∙ own) sent
 
-  other_on : (after : HostState) → after.kept ≡ before.kept → AreSent after.mail letters
+  pub other_on : (after : HostState) → after.kept ≡ before.kept → AreSent after.mail letters
       → AreHostsTogether (slice_set hosts r after) letters learnt
   other_on after same sent =
       subst (λ ls. AreHostsTogether (slice_set hosts r after) ls learnt) (append-nil letters)
@@ -218,11 +240,11 @@ module _ (hosts : List HostState) (letters : List Letter) (learnt : List LearntS
         ),
       )
 
-  quiet_on : (after : HostState) → after.kept ≡ before.kept → AreSent after.mail letters
+  pub quiet_on : (after : HostState) → after.kept ≡ before.kept → AreSent after.mail letters
       → AreStillTogether hosts letters learnt r after
   quiet_on after same sent = none_more after (other_on after same sent)
 
-  step_on : CallsKeepTogether → (after : HostState) (heard : Links) (call : WireCall) (given : Given)
+  pub step_on : CallsKeepTogether → (after : HostState) (heard : Links) (call : WireCall) (given : Given)
       → IsCallOfSent letters call → IsHostStep before heard call given after
       → AreHostsTogether (slice_set hosts r after) (letters ++ letters_of heard after.kept given.mail)
       (learnt ++ learnt_by_host r call given)
@@ -248,7 +270,8 @@ module _ (hosts : List HostState) (letters : List Letter) (learnt : List LearntS
               (same_more (with_mail before mail) more refl
               (again (kept_of_hosts hosts) letters learnt r before.kept sent before.links are.together at_kept whole
               told)
-              (subst (λ ms. AreSent ms (letters ++ more)) (sym is) (put_behind before.mail letters more waiting))),
+              (subst (λ ms. AreSent ms (letters ++ more)) (sym is)
+              (put_behind before.kept.own before.mail letters more waiting))),
         ),
       )
 
@@ -260,7 +283,7 @@ module _ (hosts : List HostState) (letters : List Letter) (learnt : List LearntS
       quiet_on after (ap (λ (h : HostState). h.kept) is)
       (told_back (standing_of before.kept letter.parcel.from) before.mail after.mail letters told waiting)
   taken_on calls after letter false sent (given, step) =
-      let heard = links_by before.links letter in
+      let heard = links_by before letter in
       let call = Receive (letter_message letter) in (
         letters_of heard after.kept given.mail,
         (
@@ -285,7 +308,7 @@ module _ (hosts : List HostState) (letters : List Letter) (learnt : List LearntS
       eqb-true letter.parcel.to before.kept.own
       (and_right (letter.replicas == length before.kept.votes) (letter.parcel.to == before.kept.own) takes.here)
       ∙ own in
-      taken_on calls after letter (brings_nothing before.kept.view letter)
+      taken_on calls after letter (wants_standing before.kept letter.parcel)
       (subst (λ x. IsCallOfSent letters (Receive x)) (sym is)
       (may m refl (sym (ap (λ (x : WireMessage). x.to) is) ∙ to))) takes.taken
 
@@ -301,46 +324,59 @@ module _ (hosts : List HostState) (letters : List Letter) (learnt : List LearntS
 
 -- ## What it sends to itself
 
-get_set : (hosts : List HostState) (r : ℕ) (h k : HostState) → slice_get hosts r ≡ Some h
+pub get_set : (hosts : List HostState) (r : ℕ) (h k : HostState) → slice_get hosts r ≡ Some h
     → slice_get (slice_set hosts r k) r ≡ Some k
 get_set [] r h k e = absurd (none-some h e)
 get_set (x ∷ xs) zero h k e = refl
 get_set (x ∷ xs) (suc r) h k e = get_set xs r h k e
 
-set_twice : (hosts : List HostState) (r : ℕ) (h k : HostState)
+pub set_twice : (hosts : List HostState) (r : ℕ) (h k : HostState)
     → slice_set (slice_set hosts r h) r k ≡ slice_set hosts r k
 set_twice [] r h k = refl
 set_twice (x ∷ xs) zero h k = refl
 set_twice (x ∷ xs) (suc r) h k = ap (λ hs. x ∷ hs) (set_twice xs r h k)
 
-own_on : CallsKeepTogether → (hosts : List HostState) (letters : List Letter) (learnt : List LearntSet) (r : ℕ)
+once_more : (hosts : List HostState) (letters : List Letter) (learnt : List LearntSet) (r : ℕ) (left after : HostState)
+    → AreStillTogether (slice_set hosts r left) letters learnt r after → AreStillTogether hosts letters learnt r after
+once_more hosts letters learnt r left after on = (
+  on.0,
+  (
+    on.1.0,
+    subst (λ hs. AreHostsTogether hs (letters ++ on.0) (learnt ++ on.1.0)) (set_twice hosts r left after) on.1.1,
+  ),
+)
+
+own_on : CallsKeepTogether → LettersAreReadBack → (hosts : List HostState) (letters : List Letter)
+    (learnt : List LearntSet) (r : ℕ)
     (before after : HostState) (brought : Bool) (o : Option Letter) → AreHostsTogether hosts letters learnt
     → slice_get hosts r ≡ Some before → own_first before.kept before.mail ≡ o → BringsOwn before o brought after
     → AreStillTogether hosts letters learnt r after
-own_on calls hosts letters learnt r before after brought None are at is (none, same) =
+own_on calls back hosts letters learnt r before after brought None are at is (none, same) =
     quiet_on hosts letters learnt r before are at after (ap (λ (h : HostState). h.kept) same)
     (subst (λ (h : HostState). AreSent h.mail letters) (sym same) (waiting hosts letters learnt r before are at))
-own_on calls hosts letters learnt r before after brought (Some letter) are at is (first, how) =
+own_on calls back hosts letters learnt r before after brought (Some letter) are at is (first, how) =
     let left = with_mail before (drop 1 before.mail) in
     let sent = waiting hosts letters learnt r before are at in
     let fewer : AreSent left.mail letters =
     λ l has. sent l (first_gone before.mail (out.Letter l) has) in
+    let still = other_on hosts letters learnt r before are at left refl fewer in
+    let there = get_set hosts r before left at in
+    let its = sent letter (own_waits before.kept before.mail letter is) in
     elim how [
       | inl takes ↦
-          let still = other_on hosts letters learnt r before are at left refl fewer in
-          let on = taken_on (slice_set hosts r left) letters learnt r left still (get_set hosts r before left at) calls
-          after letter (brings_nothing left.kept.view letter)
-          (letter, sent letter (own_waits before.kept before.mail letter is), refl) takes.taken in (
-            on.0,
-            (
-              on.1.0,
-              subst (λ hs. AreHostsTogether hs (letters ++ on.0) (learnt ++ on.1.0))
-                  (set_twice hosts r left after) on.1.1,
-            ),
-          )
-      | inr lost ↦
-          quiet_on hosts letters learnt r before are at after (ap (λ (h : HostState). h.kept) lost)
-          (subst (λ (h : HostState). AreSent h.mail letters) (sym lost) fewer)
+          once_more hosts letters learnt r left after
+          (taken_on (slice_set hosts r left) letters learnt r left still there calls after letter
+          (wants_standing left.kept letter.parcel) (letter, its, refl) takes.taken)
+      | inr other ↦ elim other [
+        | inl line ↦
+            once_more hosts letters learnt r left after
+            (line_on (slice_set hosts r left) letters learnt r left still there calls back after
+            (message_text (letter_message letter))
+            (λ m named to. (letter, its, record { typed = line.0; text = refl })) line.1)
+        | inr lost ↦
+            quiet_on hosts letters learnt r before are at after (ap (λ (h : HostState). h.kept) lost)
+            (subst (λ (h : HostState). AreSent h.mail letters) (sym lost) fewer)
+      ]
     ]
 
 -- ## When nothing has happened
@@ -388,9 +424,9 @@ pub lines : CallsKeepTogether → LettersAreReadBack → LinesKeepHostsTogether
 lines calls back hosts letters learnt r before after line are at may takes =
     line_on hosts letters learnt r before are at calls back after line may takes
 
-pub own_mail : CallsKeepTogether → OwnMailKeepsHostsTogether
-own_mail calls hosts letters learnt r before after brought are at is =
-    own_on calls hosts letters learnt r before after brought (own_first before.kept before.mail) are at refl is
+pub own_mail : CallsKeepTogether → LettersAreReadBack → OwnMailKeepsHostsTogether
+own_mail calls back hosts letters learnt r before after brought are at is =
+    own_on calls back hosts letters learnt r before after brought (own_first before.kept before.mail) are at refl is
 
 pub repeats : RepeatsKeepTogether → RepeatsKeepHostsTogether
 repeats again hosts letters learnt r before mail are at is =

@@ -1,5 +1,6 @@
 -- A host: a node with a shelf of objects, what waits to be sent, and what of its view was handed on.
-use Rattle.std.specs.Prelude.{◌≡◌, ◌⊎◌, ⊤, ℕ, ◌<◌, List, [], ◌∷◌, ◌++◌, map, filter, length, Option, Some, None}
+use Rattle.std.specs.Prelude.{◌≡◌, ◌⊎◌, ⊤, ℕ, ◌<◌, ◌==◌, List, [], ◌∷◌, ◌++◌, filter, length, Option, Some, None}
+use Rattle.std.specs.Prelude.{if◌then◌else◌}
 use Rattle.la_set.specs.declared.counts.Counts.{Counts}
 use Rattle.la_set.specs.Counts.{zero_counts}
 use Rattle.la_set.specs.Inclusion.{IsSubset}
@@ -20,6 +21,7 @@ use Rattle.la_node.specs.Links.{letters_of, is_owed, no_links}
 use Rattle.la_node.specs.Steps.{Given}
 use Rattle.la_wire.specs.Calls.{WireCall}
 use Rattle.la_durable.specs.Nodes.{acts, empty_shelf}
+use Rattle.la_embed.specs.Journals.{JournalState, IsJournaled, JournalsCall}
 use Rattle.la_embed.specs.declared.outgoing.Outgoing.{Outgoing}
 use Rattle.la_embed.specs.declared.outgoing.Outgoing.TheVariants as out
 
@@ -34,27 +36,47 @@ pub record HostState : Type 0 where
   pub mail : List Outgoing
   -- what of the view was handed on
   pub handed : Counts
+  -- its journal, where it has one
+  pub journal : Option JournalState
 
--- the objects have absorbed no more than the view
-abbrev pub IsHost : HostState → Type 0
-IsHost h = IsSubset h.shelf.view h.kept.view
+-- the objects have absorbed no more than the view, and a journal leads to what it keeps
+pub record IsHost (h : HostState) : Type 0 where
+  pub absorbed : IsSubset h.shelf.view h.kept.view
+  pub journaled : IsJournaled h.journal h.kept
 
--- a host in which nothing has happened
+-- a host without objects and mail, which has heard nothing
+abbrev pub host_over : Option JournalState → ReplicaState → HostState
+host_over journal kept = record {
+  kept = kept;
+  shelf = empty_shelf;
+  links = no_links;
+  mail = [];
+  handed = zero_counts;
+  journal = journal;
+}
+
+-- one in which nothing has happened, without a journal
 abbrev pub host_of : ReplicaState → HostState
-host_of kept =
-    record { kept = kept; shelf = empty_shelf; links = no_links; mail = []; handed = zero_counts }
+host_of kept = host_over None kept
 
 -- ## What waits to be sent
 
--- these letters are put behind what waits
-abbrev pub with_letters : List Outgoing → List Letter → List Outgoing
-with_letters mail letters = mail ++ map out.Letter letters
+-- a letter to the replica itself is put before what waits, any other behind it
+abbrev pub with_letter : (own : ℕ) → List Outgoing → Letter → List Outgoing
+with_letter own mail letter =
+    if letter.parcel.to == own then out.Letter letter ∷ mail else mail ++ out.Letter letter ∷ []
 
--- A node's mail is put behind what waits, each message as a letter over what is known of its receiver; or there was no
+-- one after another
+abbrev pub with_letters : (own : ℕ) → List Outgoing → List Letter → List Outgoing
+with_letters own mail [] = mail
+with_letters own mail (letter ∷ letters) = with_letters own (with_letter own mail letter) letters
+
+-- A node's mail is put to what waits, each message as a letter over what is known of its receiver; or there was no
 -- memory, and all of it is lost, as a transport may lose it.
 abbrev pub IsPosted : Links → (after : ReplicaState) → (sent : List code.Message) → (before mail : List Outgoing)
     → Type 0
-IsPosted links after sent before mail = (mail ≡ with_letters before (letters_of links after sent)) ⊎ (mail ≡ before)
+IsPosted links after sent before mail =
+    (mail ≡ with_letters after.own before (letters_of links after sent)) ⊎ (mail ≡ before)
 
 -- a standing is put there, or was lost so
 abbrev pub IsToldBack : Standing → (before mail : List Outgoing) → Type 0
@@ -65,7 +87,8 @@ abbrev pub IsPostedAgain : (before : HostState) → (mail : List Outgoing) → T
 IsPostedAgain before mail =
     (sent : List code.Message) × (whole_mail sent ≡ again before.kept)
     × ((offered : Counts) → AreToldIn before.kept offered sent)
-    × (mail ≡ with_letters before.mail (letters_of before.links before.kept (filter (is_owed before.links) sent)))
+    × (mail ≡ with_letters before.kept.own before.mail
+    (letters_of before.links before.kept (filter (is_owed before.links) sent)))
 
 -- why no tags are told
 abbrev pub IsUnseen : Option (List UpdateId) → ShelfError → Type 0
@@ -77,7 +100,8 @@ IsUnseen o shelf.NotFresh = ⊥
 
 -- ## Steps
 
--- the node took this call, and what it sends waits; nothing else has changed but what was heard of others
+-- the node took this call, its journal the call's line, and what it sends waits; nothing else has changed but what was
+-- heard of others
 pub record IsHostStep (before : HostState) (heard : Links) (call : WireCall) (given : Given) (after : HostState)
     : Type 0 where
   pub does : acts before.kept call ≡ Some (given, after.kept)
@@ -85,6 +109,7 @@ pub record IsHostStep (before : HostState) (heard : Links) (call : WireCall) (gi
   pub links : after.links ≡ heard
   pub shelf : after.shelf ≡ before.shelf
   pub handed : after.handed ≡ before.handed
+  pub journal : JournalsCall before.kept call given after.kept before.journal after.journal
 
 -- so it took a call, whatever the node gave out for it
 abbrev pub TakesCall : HostState → Links → WireCall → HostState → Type 0
@@ -101,7 +126,7 @@ submitted_by h = number_or_none (submitted_in h.kept 0)
 -- the same with other objects
 abbrev pub with_objects : HostState → ShelfState → HostState
 with_objects h shelf =
-    record { kept = h.kept; shelf = shelf; links = h.links; mail = h.mail; handed = h.handed }
+    record { kept = h.kept; shelf = shelf; links = h.links; mail = h.mail; handed = h.handed; journal = h.journal }
 
 -- its shelf, once that has absorbed the view
 abbrev pub shelf_now : HostState → ShelfState
@@ -110,14 +135,19 @@ shelf_now h = record { view = h.kept.view; objects = h.shelf.objects }
 -- the same with what was heard
 abbrev pub with_links : HostState → Links → HostState
 with_links h links =
-    record { kept = h.kept; shelf = h.shelf; links = links; mail = h.mail; handed = h.handed }
+    record { kept = h.kept; shelf = h.shelf; links = links; mail = h.mail; handed = h.handed; journal = h.journal }
 
 -- the same with other mail
 abbrev pub with_mail : HostState → List Outgoing → HostState
 with_mail h mail =
-    record { kept = h.kept; shelf = h.shelf; links = h.links; mail = mail; handed = h.handed }
+    record { kept = h.kept; shelf = h.shelf; links = h.links; mail = mail; handed = h.handed; journal = h.journal }
+
+-- with its journal as this
+abbrev pub with_journal : HostState → Option JournalState → HostState
+with_journal h journal =
+    record { kept = h.kept; shelf = h.shelf; links = h.links; mail = h.mail; handed = h.handed; journal = journal }
 
 -- and with so much handed on
 abbrev pub with_handed : HostState → Counts → HostState
 with_handed h handed =
-    record { kept = h.kept; shelf = h.shelf; links = h.links; mail = h.mail; handed = handed }
+    record { kept = h.kept; shelf = h.shelf; links = h.links; mail = h.mail; handed = handed; journal = h.journal }

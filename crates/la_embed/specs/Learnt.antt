@@ -32,14 +32,10 @@ IsNextLearnt handed view (Some u) = IsNextOf handed view u.id × (get view u.id 
 abbrev pub handed_with : (handed : Counts) → UpdateId → Counts
 handed_with handed id = from_counts (λ r. if r == id.replica then id.number else count_in handed r)
 
-abbrev pub handed_after : (handed : Counts) → Option UpdateId → Counts
-handed_after handed None = handed
-handed_after handed (Some id) = handed_with handed id
-
--- what was handed on, once that which comes next was, if one does
-abbrev pub HandsOnNext : (view : Histories) → (before after : Counts) → Type 0
-HandsOnNext view before after =
-    (next : Option UpdateId) × IsNextId before view next × (after ≡ handed_after before next)
+-- where it is the next one of its replica
+abbrev pub handed_noting : (handed : Counts) → UpdateId → Counts
+handed_noting handed id =
+    if id.number == count_in handed id.replica + 1 then handed_with handed id else handed
 
 -- ## All that is handed on
 
@@ -48,10 +44,10 @@ pub record Handing : Type 0 where
   pub view : Histories
   pub update : Update
 
--- it came next of its view, and then note was taken of that
+-- it came next of its view, and then note was taken of that, whatever the view was by then
 pub record IsHandedIn (before : Counts) (handing : Handing) (after : Counts) : Type 0 where
   pub next : IsNextLearnt before handing.view (Some handing.update)
-  pub noted : HandsOnNext handing.view before after
+  pub noted : after ≡ handed_noting before handing.update.id
 
 -- These were handed on one after another, until all of a view were. The views before were parts of it.
 abbrev pub AreHandedOn : (before : Counts) → List Handing → (view : Histories) → Type 0

@@ -1,5 +1,7 @@
 pub mod Outgoing
 pub mod Learnt
+pub mod Journals
+pub mod Keepers
 pub mod Hosts
 pub mod Refusals
 pub mod Receiving

@@ -5,8 +5,11 @@ use Rattle.la_set.specs.Histories.{object_op_number}
 use Rattle.la_proposer.specs.Inputs.{all_submitted}
 use Rattle.la_replica.specs.declared.instance.Instance.{Instance}
 use Rattle.la_replica.specs.ReplicaState.{ReplicaState}
-use Rattle.la_wire.specs.Calls.{Submit}
-use Rattle.la_durable.specs.Errors.{RefusesSubmission}
+use Rattle.la_wire.specs.Calls.{Submit, Decide}
+use Rattle.la_wire.specs.Writable.{IsCall}
+use Rattle.la_durable.specs.Errors.{RefusesSubmission, RefusesProposal}
+use Rattle.la_durable.specs.declared.error.NodeError.{NodeError}
+use Rattle.la_embed.specs.Journals.{IsRefusedOver}
 use Rattle.la_embed.specs.declared.error.NumberError.{NumberError}
 use Rattle.la_embed.specs.declared.error.NumberError.TheVariants.{Stale, Gap, Node}
 use Rattle.la_embed.specs.Hosts.{HostState, TakesCall, submitted_by}
@@ -26,6 +29,17 @@ SubmitsUnder before number d after =
     × TakesCall before before.links (Submit before.kept.own d.object d.op) after)
     ⊎ ((number ≢ submitted_by before + 1) × (submitted_as before.kept number ≡ Some d) × (after ≡ before))
 
+-- why a program's own call is not taken
+abbrev pub RefusesToSubmit : HostState → ObjectOp → NodeError → Type 0
+RefusesToSubmit before d =
+    IsRefusedOver before.journal (IsCall (Submit before.kept.own d.object d.op) → ⊥)
+    (RefusesSubmission before.kept before.kept.own)
+
+abbrev pub RefusesToPropose : HostState → (commit value : ℕ) → NodeError → Type 0
+RefusesToPropose before commit value =
+    IsRefusedOver before.journal (IsCall (Decide before.kept.own commit value) → ⊥)
+    (RefusesProposal before.kept before.kept.own commit)
+
 -- under any other it is refused
 abbrev pub IsNumberRefusal : HostState → (number : ℕ) → ObjectOp → NumberError → Type 0
 IsNumberRefusal before number d Stale =
@@ -34,4 +48,4 @@ IsNumberRefusal before number d Stale =
 IsNumberRefusal before number d Gap =
     (number ≢ submitted_by before + 1) × (submitted_as before.kept number ≡ None)
 IsNumberRefusal before number d (Node e) =
-    (number ≡ submitted_by before + 1) × RefusesSubmission before.kept before.kept.own e
+    (number ≡ submitted_by before + 1) × RefusesToSubmit before d e

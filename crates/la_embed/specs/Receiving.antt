@@ -1,23 +1,18 @@
 -- What a host makes of a line from another replica.
-use Rattle.std.specs.Prelude.{◌≡◌, ◌⊎◌, ℕ, nat_le, ◌==◌, Bool, true, false, ◌&&◌, List, [], ◌∷◌, Ok, Err, Result}
+use Rattle.std.specs.Prelude.{◌≡◌, ◌⊎◌, ℕ, ◌==◌, Bool, true, false, ◌&&◌, List, [], ◌∷◌, Ok, Err, Result}
 use Rattle.std.specs.Prelude.{length, drop}
 use Rattle.std.specs.Prelude.{Option, Some, None, if◌then◌else◌}
-use Rattle.std.specs.List.{list_all}
-use Rattle.la_set.specs.declared.counts.Counts.{Counts}
-use Rattle.la_set.specs.declared.update.Update.{Update}
-use Rattle.la_set.specs.Counts.{count_in, counts_of}
-use Rattle.la_set.specs.Histories.{Histories}
-use Rattle.la_replica.specs.declared.parcel.Content.{Content}
-use Rattle.la_replica.specs.declared.parcel.Content.TheVariants as content
+use Rattle.la_replica.specs.Progress.{progress_of}
 use Rattle.la_replica.specs.ReplicaState.{ReplicaState}
 use Rattle.la_node.specs.declared.link.Letter.{Letter}
 use Rattle.la_node.specs.declared.link.Links.{Links}
-use Rattle.la_node.specs.Accepting.{has_counts}
-use Rattle.la_node.specs.Links.{known_with, standing_of}
+use Rattle.la_node.specs.Links.{known_with, standing_of, wants_standing}
 use Rattle.la_wire.specs.declared.error.LineFault.{LineFault}
 use Rattle.la_wire.specs.Calls.{WireCall, Submit, Decide, Ask, Tick, Receive, Known}
-use Rattle.la_wire.specs.CallLines.{bounded_call_of}
+use Rattle.la_wire.specs.CallLines.{bounded_call_of, may_stand}
 use Rattle.la_wire.specs.Messages.{letter_message}
+use Rattle.la_wire.specs.MessageLines.{message_text}
+use Rattle.la_wire.specs.Writable.{IsTypedMessage}
 use Rattle.la_durable.specs.Errors.{RefusesLetter}
 use Rattle.la_durable.specs.declared.error.NodeError.{NodeError}
 use Rattle.la_durable.specs.declared.error.NodeError.TheVariants.{Elsewhere}
@@ -25,24 +20,9 @@ use Rattle.la_embed.specs.declared.error.HostError.{HostError}
 use Rattle.la_embed.specs.declared.error.HostError.TheVariants.{Line, NoMessage, Node, Memory}
 use Rattle.la_embed.specs.declared.outgoing.Outgoing.{Outgoing}
 use Rattle.la_embed.specs.declared.outgoing.Outgoing.TheVariants as out
+use Rattle.la_embed.specs.Journals.{IsRefusedOver}
 use Rattle.la_embed.specs.Hosts.{HostState, TakesCall, IsToldBack, with_links, with_mail}
 use Rattle.la_embed.specs.Refusals.{host_error_of_node}
-
--- ## Whether a letter brings news
-
--- an update's number is among those that counts have
-abbrev pub is_counted : Counts → Update → Bool
-is_counted counts u = nat_le u.id.number (count_in counts u.id.replica)
-
--- a view has all of a told set, by counts
-abbrev pub has_told : Histories → Content → Bool
-has_told view (content.Tell told) = has_counts view told.base && list_all (is_counted (counts_of view)) told.more
-has_told view (content.Offer offered) = false
-has_told view content.Yes = false
-has_told view (content.No refused) = false
-
-abbrev pub brings_nothing : Histories → Letter → Bool
-brings_nothing view letter = (letter.parcel.instance == 0) && has_told view letter.parcel.content
 
 -- ## What a host makes of it
 
@@ -51,20 +31,21 @@ abbrev pub is_for_host : ReplicaState → (replicas to : ℕ) → Bool
 is_for_host kept replicas to = (replicas == length kept.votes) && (to == kept.own)
 
 -- what is known once a letter was heard
-abbrev pub links_by : Links → Letter → Links
-links_by links letter = known_with links letter.parcel.from letter.progress
+abbrev pub links_by : HostState → Letter → Links
+links_by before letter = known_with before.links (progress_of before.kept) letter.parcel.from letter.progress
 
--- a letter that brings nothing is answered by how far the host is; any other is received
-abbrev pub IsTaken : HostState → Letter → (nothing : Bool) → HostState → Type 0
+-- A letter over more than the host has, or that brings nothing, is answered by how far the host is. Any other is
+-- received.
+abbrev pub IsTaken : HostState → Letter → (idle : Bool) → HostState → Type 0
 IsTaken before letter true after =
     IsToldBack (standing_of before.kept letter.parcel.from) before.mail after.mail
-    × (after ≡ with_mail (with_links before (links_by before.links letter)) after.mail)
+    × (after ≡ with_mail (with_links before (links_by before letter)) after.mail)
 IsTaken before letter false after =
-    TakesCall before (links_by before.links letter) (Receive (letter_message letter)) after
+    TakesCall before (links_by before letter) (Receive (letter_message letter)) after
 
 pub record TakesLetter (before : HostState) (letter : Letter) (after : HostState) : Type 0 where
   pub here : is_for_host before.kept letter.replicas letter.parcel.to ≡ true
-  pub taken : IsTaken before letter (brings_nothing before.kept.view letter) after
+  pub taken : IsTaken before letter (wants_standing before.kept letter.parcel) after
 
 -- a letter, or how far another is, was read
 abbrev pub TakesRead : HostState → Result WireCall LineFault → HostState → Type 0
@@ -73,7 +54,7 @@ TakesRead before (Ok (Receive m)) after = (letter : Letter) × (letter_message l
     × TakesLetter before letter after
 TakesRead before (Ok (Known s)) after =
     (is_for_host before.kept s.replicas s.to ≡ true)
-    × (after ≡ with_links before (known_with before.links s.from s.progress))
+    × (after ≡ with_links before (known_with before.links (progress_of before.kept) s.from s.progress))
 TakesRead before (Ok (Submit replica object op)) after = ⊥
 TakesRead before (Ok (Decide replica commit value)) after = ⊥
 TakesRead before (Ok (Ask replica object query)) after = ⊥
@@ -90,27 +71,29 @@ is_from_peer (Receive m) = true
 is_from_peer (Known s) = true
 is_from_peer _ = false
 
--- a letter for another, or one that the node refuses
-abbrev pub RefusesHere : ReplicaState → Letter → HostError → Type 0
-RefusesHere kept letter e =
-    ((is_for_host kept letter.replicas letter.parcel.to ≡ false) × (e ≡ Node Elsewhere))
-    ⊎ ((is_for_host kept letter.replicas letter.parcel.to ≡ true)
-    × ((refused : NodeError) × RefusesLetter kept letter refused × (e ≡ host_error_of_node refused)))
+-- a letter for another, or one that the node refuses, or whose line no journal may have
+abbrev pub RefusesHere : HostState → (unsaid : Type 0) → Letter → HostError → Type 0
+RefusesHere before unsaid letter e =
+    ((is_for_host before.kept letter.replicas letter.parcel.to ≡ false) × (e ≡ Node Elsewhere))
+    ⊎ ((is_for_host before.kept letter.replicas letter.parcel.to ≡ true)
+    × ((refused : NodeError) × IsRefusedOver before.journal unsaid (RefusesLetter before.kept letter) refused
+    × (e ≡ host_error_of_node refused)))
 
-abbrev pub RefusesCall : ReplicaState → WireCall → HostError → Type 0
-RefusesCall kept (Receive m) e = (letter : Letter) × (letter_message letter ≡ m) × RefusesHere kept letter e
-RefusesCall kept (Known s) e = (is_for_host kept s.replicas s.to ≡ false) × (e ≡ Node Elsewhere)
-RefusesCall kept (Submit replica object op) e = e ≡ NoMessage
-RefusesCall kept (Decide replica commit value) e = e ≡ NoMessage
-RefusesCall kept (Ask replica object query) e = e ≡ NoMessage
-RefusesCall kept Tick e = e ≡ NoMessage
+abbrev pub RefusesCall : HostState → (unsaid : Type 0) → WireCall → HostError → Type 0
+RefusesCall before unsaid (Receive m) e =
+    (letter : Letter) × (letter_message letter ≡ m) × RefusesHere before unsaid letter e
+RefusesCall before unsaid (Known s) e = (is_for_host before.kept s.replicas s.to ≡ false) × (e ≡ Node Elsewhere)
+RefusesCall before unsaid (Submit replica object op) e = e ≡ NoMessage
+RefusesCall before unsaid (Decide replica commit value) e = e ≡ NoMessage
+RefusesCall before unsaid (Ask replica object query) e = e ≡ NoMessage
+RefusesCall before unsaid Tick e = e ≡ NoMessage
 
-abbrev pub RefusesRead : ReplicaState → Result WireCall LineFault → HostError → Type 0
-RefusesRead kept (Err fault) e = (e ≡ Line fault) ⊎ (e ≡ Memory)
-RefusesRead kept (Ok call) e = RefusesCall kept call e ⊎ (e ≡ Memory)
+abbrev pub RefusesRead : HostState → (unsaid : Type 0) → Result WireCall LineFault → HostError → Type 0
+RefusesRead before unsaid (Err fault) e = (e ≡ Line fault) ⊎ (e ≡ Memory)
+RefusesRead before unsaid (Ok call) e = RefusesCall before unsaid call e ⊎ (e ≡ Memory)
 
 abbrev pub IsLineRefusal : HostState → (line : List ℕ) → HostError → Type 0
-IsLineRefusal before line e = RefusesRead before.kept (bounded_call_of line) e
+IsLineRefusal before line e = RefusesRead before (may_stand line ≡ false) (bounded_call_of line) e
 
 -- ## What it sends to itself
 
@@ -123,9 +106,14 @@ abbrev pub own_first : ReplicaState → List Outgoing → Option Letter
 own_first kept [] = None
 own_first kept (first ∷ mail) = letter_to_own kept first
 
--- it is taken from what waits, and received or lost
+-- it is received by the line that is put of it
+abbrev pub TakesByLine : HostState → Letter → HostState → Type 0
+TakesByLine before letter after =
+    IsTypedMessage (letter_message letter) × TakesHostLine before (message_text (letter_message letter)) after
+
+-- it is taken from what waits, and received, by its line where there is a journal, or lost
 abbrev pub BringsOwn : HostState → Option Letter → (brought : Bool) → HostState → Type 0
 BringsOwn before None brought after = (brought ≡ false) × (after ≡ before)
 BringsOwn before (Some letter) brought after =
     (brought ≡ true) × (let left = with_mail before (drop 1 before.mail) in
-    TakesLetter left letter after ⊎ (after ≡ left))
+    TakesLetter left letter after ⊎ TakesByLine left letter after ⊎ (after ≡ left))

@@ -18,6 +18,10 @@ use Rattle.la_wire.specs.MessageLines.{message_text}
 use Rattle.la_wire.specs.Calls.{WireCall, Receive}
 use Rattle.la_wire.specs.CallLines.{named_call}
 use Rattle.la_wire.specs.Writable.{IsTypedMessage}
+use Rattle.la_journal.specs.Machine.{LeadsToSome}
+use Rattle.la_durable.specs.CallLines.{CallLine}
+use Rattle.la_durable.specs.Nodes.{step}
+use Rattle.la_durable.specs.Restarts.{leads_from}
 use Rattle.la_world.specs.Calls.{replica_states_at_start}
 use Rattle.la_world.specs.LiveGroups.{LearntSet, learnt_set}
 use Rattle.la_world.specs.Together.{AreTogether}
@@ -70,6 +74,11 @@ IsLineOfSent letters r line =
 abbrev pub IsCallOfSent : List Letter → WireCall → Type 0
 IsCallOfSent letters (Receive m) = (letter : Letter) × Contains letters letter × (letter_message letter ≡ m)
 IsCallOfSent letters _ = Unit {0}
+
+-- so of each call that these lines say
+abbrev pub AreLinesOfSent : List Letter → List CallLine → Type 0
+AreLinesOfSent letters lines =
+    (c : CallLine) → Contains lines c → (call : WireCall) → named_call c.line ≡ Some call → IsCallOfSent letters call
 
 -- what replica r learnt by a call
 abbrev pub learnt_by_host : (r : ℕ) → WireCall → Given → List LearntSet
@@ -128,6 +137,18 @@ OthersKeepHostsTogether =
     AreHostsTogether hosts letters learnt → slice_get hosts r ≡ Some before →
     after.kept ≡ before.kept → ((letter : Letter) → IsWaiting letter after → IsWaiting letter before) →
     AreHostsTogether (slice_set hosts r after) letters learnt
+
+-- Once one of them has crashed and was made anew. Of its journal a crash left a file that leads on, by the first some
+-- of these calls, from what it was when all was last on the disk; what it received among these was sent. It sends
+-- nothing of what waited.
+abbrev pub RestartsKeepHostsTogether : Type 0
+RestartsKeepHostsTogether =
+    (hosts : List HostState) (letters : List Letter) (learnt : List LearntSet) (r : ℕ) (before after : HostState)
+    (start : ReplicaState) (calls : List CallLine) (file : List ℕ) →
+    AreHostsTogether hosts letters learnt → slice_get hosts r ≡ Some before → AreLinesOfSent letters calls →
+    LeadsToSome (leads_from start) step calls before.kept file → leads_from start file ≡ Some after.kept →
+    after.mail ≡ [] →
+    AreStillTogether hosts letters learnt r after
 
 -- ## What they keep
 

@@ -2,7 +2,10 @@ ghost use Rattle.std.specs.Prelude.{◌≡◌};
 ghost use Rattle.la_embed.specs.Refusals.{host_error_of_node, host_error_of_line};
 
 use la_durable::NodeError;
+use la_journal::Unplayed;
+use la_node::WorldError;
 use la_wire::{LineError, LineFault};
+use std::alloc::AllocError;
 use thiserror::Error;
 
 /// Why a line from another replica was not taken. The node is then as before.
@@ -44,6 +47,39 @@ impl From<LineError> for HostError {
             LineError::Fault(fault) => HostError::Line(fault),
             LineError::Memory => HostError::Memory,
         }
+    }
+}
+
+/// Why no host was made of a journal. The bytes are as they were.
+#[derive(Debug, Drop)]
+pub enum Unrecovered {
+    /// The group or the replica is none.
+    Group(WorldError),
+
+    /// The journal is not played.
+    Journal(Unplayed<NodeError>),
+
+    /// A growth was refused.
+    Memory,
+}
+
+impl From<WorldError> for Unrecovered {
+    ghost use Rattle.la_embed.specs.declared.error.Unrecovered.TheVariants.{Group};
+
+    ghost from_gives = { λ refused e. e ≡ Group refused };
+
+    fn from(refused: WorldError) -> Unrecovered {
+        Unrecovered::Group(refused)
+    }
+}
+
+impl From<AllocError> for Unrecovered {
+    ghost use Rattle.la_embed.specs.declared.error.Unrecovered.TheVariants.{Memory};
+
+    ghost from_gives = { λ _ e. e ≡ Memory };
+
+    fn from(_refused: AllocError) -> Unrecovered {
+        Unrecovered::Memory
     }
 }
 

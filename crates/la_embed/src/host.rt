@@ -1,40 +1,48 @@
-ghost use Rattle.std.specs.Prelude.{◌≡◌, ◌≤◌, ◌++◌, ◌∷◌, [], Ok, Some, None, IsOk, IfOk, IfErr, OnOk, OnErr, MatchOption};
-ghost use Rattle.std.specs.Prelude.{◌↔◌, IsTrue, option_map, drop, filter, length, slice_get};
+ghost use Rattle.std.specs.Prelude.{◌≡◌, ◌≢◌, ◌<◌, ◌+◌, ◌++◌, ◌∷◌, [], Ok, Some, None, IfOk, IfErr, OnOk, OnErr};
+ghost use Rattle.std.specs.Prelude.{◌↔◌, IsTrue, true, false, option_map, drop, filter, length, slice_get};
 ghost use Rattle.std.specs.Option.{option_copied};
-ghost use Rattle.la_set.specs.Inclusion.{IsSubset};
 ghost use Rattle.la_object.specs.Objects.{kind_of};
 ghost use Rattle.la_object.specs.Shelves.{kind_at, answer_at, tags_at};
 ghost use Rattle.la_object.specs.Refusals.{IsAddRefusal, IsAskRefusal};
 ghost use Rattle.la_node.specs.Configs.{IsConfig};
 ghost use Rattle.la_node.specs.Links.{known_of, is_owed, letters_of};
 ghost use Rattle.la_node.specs.Nodes.{node_at_start, returned_by, IsStartRefusal};
-ghost use Rattle.la_node.specs.Steps.{Given};
-ghost use Rattle.std.specs.List.{list_all};
-ghost use Rattle.la_wire.specs.Calls.{called, Submit, Decide};
+ghost use Rattle.std.specs.VecDeque.{deque_len, deque_capacity};
+ghost use Rattle.la_wire.specs.Calls.{called, Submit, Decide, Receive};
+ghost use Rattle.la_wire.specs.CallLines.{named_call, may_stand};
+ghost use Rattle.la_wire.specs.Messages.{letter_message};
+ghost use Rattle.la_wire.specs.Writable.{IsCall};
 ghost use Rattle.la_node.specs.Links.{standing_of};
-ghost use Rattle.la_durable.specs.Nodes.{empty_shelf, kept_by};
-ghost use Rattle.la_durable.specs.Errors.{IsActRefusal, RefusesSubmission, RefusesProposal};
+ghost use Rattle.la_durable.specs.Nodes.{empty_shelf};
+ghost use Rattle.la_durable.specs.Errors.{IsActRefusal};
 ghost use Rattle.la_set.specs.ObjectOps.{object_op_of, update_of};
 ghost use Rattle.la_proposer.specs.ProposerState.{op_on};
 ghost use Rattle.la_set.specs.Histories.{object_op_number};
 ghost use Rattle.la_proposer.specs.Inputs.{all_submitted};
-ghost use Rattle.la_embed.specs.Numbers.{SubmitsUnder, IsNumberRefusal};
-ghost use Rattle.la_embed.specs.Learnt.{IsNextLearnt, HandsOnNext};
-ghost use Rattle.la_embed.specs.Hosts.{host_of, shelf_now, submitted_by, with_handed, with_mail, with_objects};
-ghost use Rattle.la_embed.specs.Hosts.{TakesCall, IsPosted, IsToldBack, IsPostedAgain, IsUnseen, with_letters};
-ghost use Rattle.la_embed.specs.Receiving.{TakesHostLine, TakesLetter, RefusesHere, IsLineRefusal, BringsOwn, own_first};
-ghost use Rattle.la_embed.specs.Receiving.{is_for_host, brings_nothing, has_told, is_counted};
+ghost use Rattle.la_embed.specs.Journals.{JournalState, AllIsKept, MakesRecord, IsJournaled, IsRecovered, IsNotRecovered};
+ghost use Rattle.la_embed.specs.Journals.{IsRefusedOver, record_in, journal_synced};
+ghost use Rattle.la_embed.specs.Keepers.{state_kept, journal_in, is_own_call};
+ghost use Rattle.la_embed.specs.Numbers.{SubmitsUnder, IsNumberRefusal, RefusesToSubmit, RefusesToPropose};
+ghost use Rattle.la_embed.specs.Learnt.{IsNextLearnt, handed_noting};
+ghost use Rattle.la_embed.specs.Hosts.{host_of, host_over, shelf_now, submitted_by, with_handed, with_journal, with_mail};
+ghost use Rattle.la_embed.specs.Hosts.{TakesCall, IsPosted, IsToldBack, IsPostedAgain, IsUnseen, with_letter, with_letters, with_objects};
+ghost use Rattle.la_embed.specs.Receiving.{TakesHostLine, TakesLetter, TakesByLine, RefusesHere, IsLineRefusal, BringsOwn};
+ghost use Rattle.la_embed.specs.Receiving.{own_first};
+ghost use Rattle.la_embed.specs.Receiving.{is_for_host};
 
+use crate::journal::Journal;
+use crate::keeper::Keeper;
+use crate::keeping::line_of;
 use crate::learnt::{handed_with, next_id};
-use crate::{HostError, NumberError, Outgoing};
+use crate::{HostError, NumberError, Outgoing, Unrecovered};
 use la_commit::Outcome;
 use la_durable::{NodeError, NodeMachine};
 use la_node::{Config, Done, Letter, Links, Node, Received, WorldError};
 use la_object::{Answer, Counter, Query, Replicated, Shelf, ShelfError};
 use la_proposer::{Proposer, laws};
-use la_replica::{Content, Mail, Progress};
-use la_set::{Counts, Delta, Op, Tags, Update, UpdateId, UpdateSet};
-use la_wire::{Call, read_bounded};
+use la_replica::{Mail, Progress};
+use la_set::{Counts, Op, Tags, Update, UpdateId, UpdateSet};
+use la_wire::{Call, put_letter, read_bounded};
 use smallvec::SmallVec;
 use std::alloc::{AllocError, Global};
 use std::collections::VecDeque;
@@ -44,7 +52,7 @@ use std::marker::Model;
 #[derive(Drop)]
 pub struct Host<B: Replicated> {
     alloc: Global,
-    machine: NodeMachine,
+    keeper: Keeper,
     shelf: Shelf<B>,
     links: Links,
     mail: VecDeque<Outgoing>,
@@ -52,25 +60,27 @@ pub struct Host<B: Replicated> {
 }
 
 impl<B: Replicated> Model for Host<B> {
-    ghost use Rattle.la_durable.specs.Nodes.{kept_by};
+    ghost use Rattle.la_embed.specs.Keepers.{state_kept, journal_in};
     ghost use Rattle.la_embed.specs.Hosts.{HostState, IsHost};
 
     ghost Value = { HostState };
 
     ghost view = { λ h. record {
-      kept = kept_by h.machine;
+      kept = state_kept h.keeper;
       shelf = h.shelf;
       links = h.links;
       mail = h.mail.items;
       handed = h.handed;
+      journal = journal_in h.keeper;
     } };
 
     ghost invariant = { λ h. IsHost (record {
-      kept = kept_by h.machine;
+      kept = state_kept h.keeper;
       shelf = h.shelf;
       links = h.links;
       mail = h.mail.items;
       handed = h.handed;
+      journal = journal_in h.keeper;
     }) };
 }
 
@@ -83,46 +93,121 @@ impl<B: Replicated> Host<B> {
         ensures group { OnOk result (IsConfig config) }
         ensures error { IfErr result (IsStartRefusal config own empty_shelf) }
     {
-        Ok(Host {
+        Ok(Host::over(alloc, Keeper::Alone(NodeMachine::new(alloc, config, own)?)))
+    }
+
+    /// The same replica of the same group as before, by what is found in its journal: a file of the program's, which
+    /// has the calls that the node took. It answers how many of these bytes the file is to keep; where they are fewer,
+    /// a crash left the rest of a record that was not told to be on the disk. No byte at all is a new journal. Objects,
+    /// what was heard and what was handed on are not kept. Linear in the bytes, which are let go.
+    ///
+    /// From then on nothing may be told before it is on the disk: the program puts what [`Host::make_record`] makes
+    /// behind the file's bytes, has it on the disk, and says so by [`Host::synced`]. The first record of a new journal
+    /// is to be put in place at once, as by renaming a file that has it.
+    ///
+    /// `Group` comes as the errors of [`Host::new`], `Journal` where the bytes are no journal of this replica, are
+    /// damaged, or want memory, and else `Memory`.
+    pub fn recover(
+        alloc: Global,
+        config: Config,
+        own: u8,
+        found: Vec<u8>,
+    ) -> Result<(Host<B>, usize), Unrecovered>
+        ensures ok { IfOk result (λ made. (j : JournalState)
+            × IsRecovered config own found.items made.1 made.0.kept j × (made.0 ≡ host_over (Some j) made.0.kept)) }
+        ensures error { IfErr result (IsNotRecovered config own found.items) }
+    {
+        let (journal, keep) = Journal::recover(alloc, config, own, found)?;
+        Ok((Host::over(alloc, Keeper::Over(journal)), keep))
+    }
+
+    // A host without objects and mail, which has heard nothing.
+    fn over(alloc: Global, keeper: Keeper) -> Host<B>
+        requires { IsJournaled (journal_in keeper) (state_kept keeper) }
+        ensures { result ≡ host_over (journal_in keeper) (state_kept keeper) }
+    {
+        Host {
             alloc,
-            machine: NodeMachine::new(alloc, config, own)?,
+            keeper,
             shelf: Shelf::new(alloc),
             links: Links::new(),
             mail: VecDeque::new(alloc),
             handed: Counts::zero(),
-        })
+        }
+    }
+
+    /// Whether all that the node took is on the disk, so that it may be told. Without a journal it is always so.
+    pub fn is_kept(&self) -> bool
+        ensures { IsTrue result ↔ AllIsKept self.now.journal }
+    {
+        self.keeper.is_kept()
+    }
+
+    /// Makes the next record: the lines of all calls that were taken since the last one, as one group. Where the program
+    /// did not say yet that the last one is on the disk, it stays.
+    pub fn make_record(&mut self)
+        ensures record { MakesRecord self.old.journal self.new.journal }
+        ensures same { self.new ≡ with_journal self.old self.new.journal }
+    {
+        self.keeper.make_record();
+    }
+
+    /// The bytes of the record, which the program has to put behind those of its file: none where no call was taken, and
+    /// without a journal. A crash while they are put there may leave any part of them.
+    pub fn record(&self) -> &[u8]
+        ensures { result.now ≡ record_in self.now.journal }
+    {
+        self.keeper.record()
+    }
+
+    /// Takes note that the bytes of the last record are behind those of the file, on the disk. Where that failed it is
+    /// not to be called: the node has to be recovered anew, by another host.
+    pub fn synced(&mut self)
+        ensures { self.new ≡ with_journal self.old (journal_synced self.old.journal) }
+    {
+        self.keeper.synced();
     }
 
     /// Which replica of its group it is, from 0 on.
     pub fn own(&self) -> u8
         ensures { result ≡ self.now.kept.own }
     {
-        self.machine.node.own()
+        self.keeper.node().own()
     }
 
     /// How many replicas its group has: at most 8.
     pub fn replicas(&self) -> u8
         ensures { result ≡ length self.now.kept.votes }
     {
-        self.machine.node.replicas()
+        self.keeper.node().replicas()
     }
 
     /// The set of updates that it answers questions from.
     pub fn view(&self) -> &UpdateSet
+        requires { AllIsKept self.now.journal }
         ensures { result.now ≡ self.now.kept.view }
     {
-        self.machine.node.view()
+        self.keeper.node().view()
     }
 
     /// How many updates it has submitted: the number of the last.
     pub fn submitted(&self) -> u32
+        requires { AllIsKept self.now.journal }
         ensures { result ≡ submitted_by self.now }
     {
-        self.machine.node.submitted(0).unwrap_or(0)
+        self.count()
     }
 
-    /// How far another replica is at least, as far as was heard.
+    // How many updates it has submitted, on the disk or not.
+    fn count(&self) -> u32
+        ensures { result ≡ submitted_by self.now }
+    {
+        self.keeper.node().submitted(0).unwrap_or(0)
+    }
+
+    /// How far another replica is at least, as far as was heard; of itself, as far as it has heard that from itself.
     pub fn known(&self, replica: u8) -> Progress
+        requires { AllIsKept self.now.journal }
         ensures { result ≡ known_of self.now.links replica }
     {
         self.links.known(replica)
@@ -130,9 +215,10 @@ impl<B: Replicated> Host<B> {
 
     /// What it returned from an adopt-commit object; `None` where it has not, or there is no such object.
     pub fn outcome(&self, commit: u8) -> Option<Outcome>
+        requires { AllIsKept self.now.journal }
         ensures { result ≡ returned_by commit self.now.kept }
     {
-        self.machine.node.outcome(commit)
+        self.keeper.node().outcome(commit)
     }
 
     /// Adds an object under a number, as [`Shelf::add`] does.
@@ -146,49 +232,73 @@ impl<B: Replicated> Host<B> {
         self.shelf.add(number, object)
     }
 
-    // Puts mail of the node behind what waits. Where there is no memory it is lost, as a transport may lose it.
+    // Puts mail of the node to what waits. Where there is no memory it is lost, as a transport may lose it.
     fn post(&mut self, mail: Mail)
         ensures mail { IsPosted self.old.links self.old.kept mail self.old.mail self.new.mail }
         ensures same { self.new ≡ with_mail self.old self.new.mail }
     {
-        let Ok(letters) = self.links.letters(self.alloc, &self.machine.node, mail) else {
+        let own = self.own();
+        let Ok(letters) = self.links.letters(self.alloc, self.keeper.node(), mail) else {
             return;
         };
-        let _lost = put_letters(&mut self.mail, letters);
+        let _lost = put_letters(&mut self.mail, own, letters);
     }
 
-    // Takes a call of this node's: one step of it, with what is known of others from then on.
-    fn act(&mut self, call: &Call, links: Links) -> Result<(), NodeError>
-        ensures step { IfOk result (λ _. TakesCall self.old links (called call.now) self.new) }
-        ensures refusal { IfErr result (IsActRefusal self.old.kept call.now) }
+    // Takes a call, by its line where there is a journal: one step of the node, with what is known of others from then
+    // on.
+    fn act(&mut self, call: Call, line: &[u8], links: Links) -> Result<(), NodeError>
+        requires { self.old.journal ≢ None → named_call line.now ≡ Some (called call) }
+        ensures step { IfOk result (λ _. TakesCall self.old links (called call) self.new) }
+        ensures refusal { IfErr result (IsRefusedOver self.old.journal (may_stand line.now ≡ false)
+            (IsActRefusal self.old.kept call)) }
         ensures err { OnErr result (self.new ≡ self.old) }
     {
-        let Received { done, .. } = self.machine.act(call)?;
+        let Received { done, .. } = self.keeper.act(self.alloc, call, line)?;
         let Done { mail, .. } = done;
         self.links = links;
         self.post(mail);
         Ok(())
     }
 
+    // Takes a call of the program's own, of which a line is written first where there is a journal.
+    fn call(&mut self, call: Call) -> Result<(), NodeError>
+        requires { is_own_call (called call) ≡ true }
+        ensures step { IfOk result (λ _. TakesCall self.old self.old.links (called call) self.new) }
+        ensures refusal { IfErr result (IsRefusedOver self.old.journal (IsCall (called call) → ⊥)
+            (IsActRefusal self.old.kept call)) }
+        ensures err { OnErr result (self.new ≡ self.old) }
+    {
+        let links = self.links;
+        if !self.keeper.has_journal() {
+            return self.act(call, &[], links);
+        }
+        // a hint to the prover: of lines that are written
+        la_wire::laws::calls_may_stand_in_files();
+        match line_of(self.alloc, &call)? {
+            Some(line) => self.act(call, &line, links),
+            None => Err(NodeError::Unkept),
+        }
+    }
+
     /// Submits an operation on an object, whether or not its shelf has one under the number, and answers the update's
     /// number. What is to be sent of it waits from then on, or is lost for want of memory, as a transport may lose it.
     ///
     /// The errors are the node's: `Replica` with `Full` where it has submitted its cap, or with `BallotsSpent` where no
-    /// ballot is left, and `Memory`. After each the host is as before.
+    /// ballot is left, and `Memory`; over a journal also `Unkept`, for an operation that no line says: a vote. After each
+    /// the host is as before. Over a journal the number is not to be told before it is on the disk.
     pub fn submit(&mut self, object: u16, op: Op) -> Result<u32, NodeError>
         ensures step { IfOk result (λ _.
             TakesCall self.old self.old.links (Submit self.old.kept.own object op) self.new) }
         ensures number { IfOk result (λ number. number ≡ submitted_by self.new) }
-        ensures error { IfErr result (RefusesSubmission self.old.kept self.old.kept.own) }
+        ensures error { IfErr result (RefusesToSubmit self.old (op_on object op)) }
         ensures err { OnErr result (self.new ≡ self.old) }
     {
-        let call = Call::Submit {
+        self.call(Call::Submit {
             replica: self.own(),
             object,
             op,
-        };
-        self.act(&call, self.links)?;
-        Ok(self.submitted())
+        })?;
+        Ok(self.count())
     }
 
     /// Submits an operation as the update with this number, so that it counts once, however often it is asked for:
@@ -202,11 +312,11 @@ impl<B: Replicated> Host<B> {
         ensures error { IfErr result (IsNumberRefusal self.old number (op_on object op)) }
         ensures err { OnErr result (self.new ≡ self.old) }
     {
-        if number.checked_sub(1) == Some(self.submitted()) {
+        if number.checked_sub(1) == Some(self.count()) {
             let _number = self.submit(object, op)?;
             return Ok(());
         }
-        let Some(first) = self.machine.node.replica().instances().first() else {
+        let Some(first) = self.keeper.node().replica().instances().first() else {
             return Err(NumberError::Gap);
         };
         match submitted_under(&first.proposer, number) {
@@ -222,69 +332,72 @@ impl<B: Replicated> Host<B> {
     pub fn propose(&mut self, commit: u8, value: u64) -> Result<(), NodeError>
         ensures step { IfOk result (λ _.
             TakesCall self.old self.old.links (Decide self.old.kept.own commit value) self.new) }
-        ensures error { IfErr result (RefusesProposal self.old.kept self.old.kept.own commit) }
+        ensures error { IfErr result (RefusesToPropose self.old commit value) }
         ensures err { OnErr result (self.new ≡ self.old) }
     {
-        let call = Call::Decide {
+        self.call(Call::Decide {
             replica: self.own(),
             commit,
             value,
-        };
-        self.act(&call, self.links)
+        })
     }
 
-    // Answers a letter that brings nothing. Where there is no memory the answer is lost, as a transport may lose it.
+    // Answers a letter that is not received by how far the host is. Where there is no memory the answer is lost, as a transport may lose it.
     fn tell_back(&mut self, to: u8)
         ensures mail { IsToldBack (standing_of self.old.kept to) self.old.mail self.new.mail }
         ensures same { self.new ≡ with_mail self.old self.new.mail }
     {
-        let standing = self.machine.node.standing(to);
+        let standing = self.keeper.node().standing(to);
         let Ok(()) = self.mail.reserve(1) else {
             return;
         };
         self.mail.push_back_reserved(Outgoing::Standing(standing));
     }
 
-    // Takes a letter.
-    fn take(&mut self, letter: Letter) -> Result<(), HostError>
+    // Takes a letter, by its line where there is a journal.
+    fn take(&mut self, letter: Letter, line: &[u8]) -> Result<(), HostError>
+        requires { self.old.journal ≢ None → named_call line.now ≡ Some (Receive (letter_message letter)) }
         ensures ok { OnOk result (TakesLetter self.old letter self.new) }
-        ensures error { IfErr result (RefusesHere self.old.kept letter) }
+        ensures error { IfErr result (RefusesHere self.old (may_stand line.now ≡ false) letter) }
         ensures err { OnErr result (self.new ≡ self.old) }
     {
-        if !is_for_host(&self.machine, letter.replicas, letter.parcel.to) {
+        if !is_for_host(&self.keeper, letter.replicas, letter.parcel.to) {
             return Err(HostError::Node(NodeError::Elsewhere));
         }
         let from = letter.parcel.from;
+        let node = self.keeper.node();
         let mut links = self.links;
-        links.hear(from, letter.progress);
-        if brings_nothing(self.view(), &letter) {
+        links.hear(from, letter.progress, node.progress());
+        if node.wants_standing(&letter.parcel) {
             self.links = links;
             self.tell_back(from);
             return Ok(());
         }
-        self.act(&Call::Receive(letter), links)?;
+        self.act(Call::Receive(letter), line, links)?;
         Ok(())
     }
 
     /// Takes a line of another replica's, without its end, honest or not: a message, which is a step of the node, or
-    /// how far another is. A message that tells nothing new is answered by how far this one is. What is to be sent
-    /// waits, as that of a submission does.
+    /// how far another is. A message that tells nothing new, or over more than this one has, is answered by how far this
+    /// one is. What is to be sent waits, as that of a submission does.
     ///
     /// In this order: `Line` where the line has a fault; `NoMessage` where it is something that clients ask;
     /// `Node(Elsewhere)` where it is for another replica or group; `Node` where the node refuses the message, as no
-    /// honest peer's is refused. `Memory` may come at any line. After each the host is as before.
+    /// honest peer's is refused, and over a journal with `Unkept` where that may not have the line, as one with a byte 0.
+    /// `Memory` may come at any line. After each the host is as before.
     pub fn receive(&mut self, line: &[u8]) -> Result<(), HostError>
         ensures ok { OnOk result (TakesHostLine self.old line.now self.new) }
         ensures error { IfErr result (IsLineRefusal self.old line.now) }
         ensures err { OnErr result (self.new ≡ self.old) }
     {
         match read_bounded(self.alloc, line)? {
-            Call::Receive(letter) => self.take(letter),
+            Call::Receive(letter) => self.take(letter, line),
             Call::Known(standing) => {
-                if !is_for_host(&self.machine, standing.replicas, standing.to) {
+                if !is_for_host(&self.keeper, standing.replicas, standing.to) {
                     return Err(HostError::Node(NodeError::Elsewhere));
                 }
-                self.links.hear(standing.from, standing.progress);
+                let own = self.keeper.node().progress();
+                self.links.hear(standing.from, standing.progress, own);
                 Ok(())
             }
             Call::Submit { .. } | Call::Decide { .. } | Call::Ask { .. } | Call::Tick => {
@@ -300,13 +413,15 @@ impl<B: Replicated> Host<B> {
         ensures same { self.new ≡ with_mail self.old self.new.mail }
         ensures err { OnErr result (self.new ≡ self.old) }
     {
-        let mail = self.machine.node.again()?;
-        let letters = owed(self.alloc, &self.links, &self.machine.node, mail)?;
-        put_letters(&mut self.mail, letters)
+        let own = self.own();
+        let mail = self.keeper.node().again()?;
+        let letters = owed(self.alloc, &self.links, self.keeper.node(), mail)?;
+        put_letters(&mut self.mail, own, letters)
     }
 
-    /// What is to be sent next, the oldest first.
+    /// What is to be sent next: what is for this node itself, and then the oldest.
     pub fn next_mail(&self) -> Option<&Outgoing>
+        requires { AllIsKept self.now.journal }
         ensures { option_copied result ≡ slice_get self.now.mail 0 }
     {
         self.mail.front()
@@ -330,26 +445,43 @@ impl<B: Replicated> Host<B> {
             _ => return false,
         }
         if let Some(Outgoing::Letter(letter)) = self.mail.pop_front() {
-            let _lost = self.take(letter);
+            let _lost = if self.keeper.has_journal() {
+                self.take_by_line(&letter)
+            } else {
+                self.take(letter, &[])
+            };
         }
         true
     }
 
+    // Takes a letter by the line that is put of it.
+    fn take_by_line(&mut self, letter: &Letter) -> Result<(), HostError>
+        ensures ok { OnOk result (TakesByLine self.old letter.now self.new) }
+        ensures err { OnErr result (self.new ≡ self.old) }
+    {
+        let mut line = Vec::new(self.alloc);
+        let Ok(()) = put_letter(&mut line, letter) else {
+            return Err(HostError::Memory);
+        };
+        self.receive(&line)
+    }
+
     /// The update of the view that was not yet handed on and comes next: each is handed on once, of each replica in
     /// the order of numbers. `None` once all of the view were. It is the same until
-    /// [`Host::handed_on`], or until the view grows, so nothing is to be received in between. The cost is logarithmic.
+    /// [`Host::handed_on`], or until the view grows. The cost is logarithmic.
     pub fn next_learnt(&self) -> Option<&Update>
+        requires { AllIsKept self.now.journal }
         ensures { IsNextLearnt self.now.handed self.now.kept.view (option_copied result) }
     {
         self.view().get(next_id(self.handed, self.view())?)
     }
 
-    /// Takes note that what was to be handed on next was: nothing, where all of the view were.
-    pub fn handed_on(&mut self)
-        ensures same { self.new ≡ with_handed self.old self.new.handed }
-        ensures handed { HandsOnNext self.old.kept.view self.old.handed self.new.handed }
+    /// Takes note that the update with this id, which [`Host::next_learnt`] gave, was handed on, whatever was received
+    /// meanwhile. An update that is not the next of its replica is not noted.
+    pub fn handed_on(&mut self, id: UpdateId)
+        ensures { self.new ≡ with_handed self.old (handed_noting self.old.handed id) }
     {
-        if let Some(id) = next_id(self.handed, self.view()) {
+        if self.handed.of(id.replica).checked_add(1) == Some(id.number) {
             self.handed = handed_with(self.handed, id);
         }
     }
@@ -360,16 +492,18 @@ impl<B: Replicated> Host<B> {
     /// `NoSuchObject` comes where there is none under the number; else `Memory`, after which the shelf may have
     /// absorbed some of the view, by which no later answer differs.
     pub fn ask(&mut self, object: u16, query: &Query) -> Result<Answer, ShelfError>
+        requires { AllIsKept self.old.journal }
         ensures ok { IfOk result (λ answer. answer_at (shelf_now self.old) object query.now ≡ Some answer) }
         ensures error { IfErr result (IsAskRefusal (kind_at self.old.shelf.objects object)) }
         ensures objects { self.new.shelf.objects ≡ self.old.shelf.objects }
         ensures same { self.new ≡ with_objects self.old self.new.shelf }
     {
-        self.shelf.ask_by(self.machine.node.view(), object, query)
+        self.shelf.ask_by(self.keeper.node().view(), object, query)
     }
 
     /// The live tags of an element of an object on the shelf, by the view, which the shelf absorbs first: what a
-    /// `Remove` of it submitted here is to name. The cost is that of a question.
+    /// `Remove` of it submitted here is to name. The cost is that of a question. Over a journal they may be of what is not
+    /// on the disk yet, and are not to be told before it is.
     ///
     /// `NoSuchObject` comes where there is none under the number; else `TooManyTags` where they are more than a remove
     /// may name, or `Memory`. After each the shelf may have absorbed some of the view, by which no later answer
@@ -383,7 +517,7 @@ impl<B: Replicated> Host<B> {
         // what it answers is not looked at: the shelf has the view then
         let _absorbed = self
             .shelf
-            .ask_by(self.machine.node.view(), object, &Query::Size)?;
+            .ask_by(self.keeper.node().view(), object, &Query::Size)?;
         self.shelf.observed(object, element)
     }
 }
@@ -408,16 +542,35 @@ fn does(update: &Update, object: u16, op: &Op) -> bool
     update.object == object && update.op.same(op)
 }
 
-// Puts letters behind what waits. After a refusal nothing has changed.
-fn put_letters(mail: &mut VecDeque<Outgoing>, letters: Vec<Letter>) -> Result<(), AllocError>
-    ensures ok { OnOk result (mail.new.items ≡ with_letters mail.old.items letters.items) }
+// Puts letters before what waits that are for this replica itself, and others behind it. After a refusal nothing has
+// changed.
+fn put_letters(
+    mail: &mut VecDeque<Outgoing>,
+    own: u8,
+    letters: Vec<Letter>,
+) -> Result<(), AllocError>
+    ensures ok { OnOk result (mail.new.items ≡ with_letters own mail.old.items letters.items) }
     ensures err { OnErr result (mail.new.items ≡ mail.old.items) }
 {
     mail.reserve(letters.len())?;
     for letter in letters {
-        mail.push_back_reserved(Outgoing::Letter(letter));
+        put_reserved(mail, own, letter);
     }
     Ok(())
+}
+
+// Puts a letter there, where there is room for one more.
+fn put_reserved(mail: &mut VecDeque<Outgoing>, own: u8, letter: Letter)
+    requires { deque_len mail.old < deque_capacity mail.old }
+    ensures mail { mail.new.items ≡ with_letter own mail.old.items letter }
+    ensures len { deque_len mail.new ≡ deque_len mail.old + 1 }
+    ensures room { deque_capacity mail.new ≡ deque_capacity mail.old }
+{
+    if letter.parcel.to == own {
+        mail.push_front_reserved(Outgoing::Letter(letter));
+    } else {
+        mail.push_back_reserved(Outgoing::Letter(letter));
+    }
 }
 
 // The letters of mail, but for sets that their receivers are known to have.
@@ -440,39 +593,9 @@ fn owed(
 }
 
 // Whether a message is for this replica of this group.
-fn is_for_host(machine: &NodeMachine, replicas: u8, to: u8) -> bool
-    ensures { result ≡ is_for_host (kept_by machine.now) replicas to }
+fn is_for_host(keeper: &Keeper, replicas: u8, to: u8) -> bool
+    ensures { result ≡ is_for_host (state_kept keeper.now) replicas to }
 {
-    replicas == machine.node.replicas() && to == machine.node.own()
-}
-
-// Whether a letter tells a set that a view has, by counts.
-fn brings_nothing(view: &UpdateSet, letter: &Letter) -> bool
-    ensures { result ≡ brings_nothing view.now letter.now }
-{
-    letter.parcel.instance == 0 && has_told(view, &letter.parcel.content)
-}
-
-// Whether it is a set that a view has, by counts.
-fn has_told(view: &UpdateSet, content: &Content) -> bool
-    ensures { result ≡ has_told view.now content.now }
-{
-    match content {
-        Content::Tell(told) => view.has_counts(told.base()) && are_counted(view.counts(), told),
-        Content::Offer(_) | Content::Yes | Content::No(_) => false,
-    }
-}
-
-// Whether all updates beyond a delta's base are among those that counts have.
-fn are_counted(counts: Counts, told: &Delta) -> bool
-    ensures { result ≡ list_all (is_counted counts) told.now.more }
-{
-    let mut all = true;
-    for place in 0..told.len() {
-        let Some(update) = told.at(place) else {
-            unreachable!()
-        };
-        all = all && update.id.number <= counts.of(update.id.replica);
-    }
-    all
+    let node = keeper.node();
+    replicas == node.replicas() && to == node.own()
 }

@@ -1,13 +1,17 @@
 -- When a machine stands on its journal, and why an input or a journal is refused.
-use Rattle.std.specs.Prelude.{◌≡◌, ◌≢◌, ◌⊎◌, ⊤, ℕ, suc, ◌+◌, ◌-◌, ◌<◌, Bool, true, false, List, [], ◌∷◌, Option, Some, None, length, take, if◌then◌else◌, ◌==◌}
-use Rattle.la_journal.specs.Disk.{Only}
+use Rattle.std.specs.Prelude.{◌≡◌, ◌≢◌, ◌⊎◌, ⊤, ℕ, suc, ◌+◌, ◌-◌, ◌<◌, Bool, true, false, List, [], ◌∷◌, ◌++◌, Option}
+use Rattle.std.specs.Prelude.{Some, None, length, take, if◌then◌else◌, ◌==◌}
+use Rattle.la_journal.specs.Disk.{Only, IsUnread}
+use Rattle.la_journal.specs.Machine.{state_after}
 use Rattle.la_journal.specs.Records.{Parts, parts, end_count, IsGroupDamage}
 use Rattle.la_journal.specs.declared.recovery.Unplayed.{Unplayed}
-use Rattle.la_journal.specs.declared.recovery.Unplayed.TheVariants.{Memory, Disk, NoHead, OtherHead, NoState, NoCall, Misplaced, Refused, Damaged}
+use Rattle.la_journal.specs.declared.recovery.Unplayed.TheVariants.{Memory, Disk, NoHead, OtherHead, NoState, NoCall}
+use Rattle.la_journal.specs.declared.recovery.Unplayed.TheVariants.{Misplaced, Refused, Damaged}
 use Rattle.la_journal.specs.declared.durable.Refused.{Refused as RefusedOf}
 use Rattle.la_journal.specs.declared.durable.Refused.TheVariants.{Machine, Memory as NoMemory, Disk as NotKept, Closed}
 use Rattle.la_journal.specs.declared.compaction.Uncompacted.{Uncompacted}
-use Rattle.la_journal.specs.declared.compaction.Uncompacted.TheVariants.{Memory as NoRoom, Unsaid, Disk as NotReplaced, Closed as WasClosed}
+use Rattle.la_journal.specs.declared.compaction.Uncompacted.TheVariants.{Memory as NoRoom, Unsaid, Disk as NotReplaced}
+use Rattle.la_journal.specs.declared.compaction.Uncompacted.TheVariants.{Closed as WasClosed}
 
 -- the file is a head and groups with nothing behind them, all of it on the disk
 pub record IsSettled {D : Type 0} (seen : D → List ℕ) (may_leave : D → List ℕ → Type 0) (disk : D) : Type 0 where
@@ -15,6 +19,19 @@ pub record IsSettled {D : Type 0} (seen : D → List ℕ) (may_leave : D → Lis
   pub read : parts (seen disk) ≡ Some has
   pub whole : has.rest ≡ []
   pub durable : Only (seen disk) (may_leave disk)
+
+-- a file is a head and groups with nothing behind them
+pub record EndsInGroups (file : List ℕ) : Type 0 where
+  pub has : Parts
+  pub read : parts file ≡ Some has
+  pub whole : has.rest ≡ []
+
+-- Bytes that a crash left behind such a file, and of which nothing is read, do not change where it leads.
+abbrev pub UnreadBytesChangeNothing : {S C : Type 0} (head : S → List ℕ) (named_state : List ℕ → Option S)
+    (named : List ℕ → Option C) (step : S → C → Option S) → Type 0
+UnreadBytesChangeNothing {S = S} head named_state named step =
+    (start : S) (file torn : List ℕ) → EndsInGroups file → IsUnread (parts file) torn →
+    state_after head named_state named step start (file ++ torn) ≡ state_after head named_state named step start file
 
 -- what is known unless the journal is closed
 abbrev pub unless : (closed : Bool) → List ℕ → List ℕ

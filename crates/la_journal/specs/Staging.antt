@@ -1,5 +1,5 @@
 -- What is staged of a call, why an input is not staged, and why staged lines are not committed.
-use Rattle.std.specs.Prelude.{◌≡◌, ◌⊎◌, ℕ, ◌+◌, ◌<◌, Bool, true, false, not, ◌&&◌, List, [], ◌∷◌, ◌++◌, length, map}
+use Rattle.std.specs.Prelude.{◌≡◌, ◌⊎◌, ⊤, ℕ, ◌+◌, ◌<◌, Bool, true, false, not, ◌&&◌, List, [], ◌∷◌, ◌++◌, length, map}
 use Rattle.std.specs.Prelude.{Option, Some, None}
 use Rattle.la_journal.specs.Commits.{is_record}
 use Rattle.la_journal.specs.Machine.{steps}
@@ -15,6 +15,12 @@ IsStageRefusal lacks_memory closed stepped (Machine refusal) =
     (closed ≡ false) × (lacks_memory refusal ⊎ (stepped ≡ None))
 IsStageRefusal lacks_memory closed stepped Memory = closed ≡ false
 IsStageRefusal lacks_memory closed stepped Closed = closed ≡ true
+
+-- where the machine refuses it, it does so for this
+abbrev pub IsRefusedBy : {R : Type 0} → (refuses : R → Type 0) → Unstaged R → Type 0
+IsRefusedBy refuses (Machine refusal) = refuses refusal
+IsRefusedBy refuses Memory = ⊤
+IsRefusedBy refuses Closed = ⊤
 
 -- since the disk failed, from when on it is closed
 abbrev pub IsNotCommitted : (before now : Bool) → (faults_before faults : ℕ) → Uncommitted → Type 0

@@ -2,7 +2,7 @@
 ghost use Rattle.std.specs.Prelude.{◌≡◌, ◌++◌, ℕ, List, Some, take};
 ghost use Rattle.la_journal.specs.Disk.{LeavesOnly};
 ghost use Rattle.la_journal.specs.Machine.{state_after, steps, LeadsToSome};
-ghost use Rattle.la_journal.specs.Durable.{IsSameOr};
+ghost use Rattle.la_journal.specs.Durable.{IsSameOr, UnreadBytesChangeNothing};
 ghost use Rattle.la_journal.specs.Staging.{StagedCallsLead};
 ghost use Rattle.la_journal.specs.Starts.{IsStart};
 ghost use Rattle.la_journal.specs.Lives.{LivesAreOneRun};
@@ -58,6 +58,12 @@ pub fn lives_are_one_run<M: Machine>()
 /// are again, for a call of which nothing is kept has left that state as it was.
 pub fn staged_calls_lead<M: Machine>()
     ensures { StagedCallsLead M.step M.answers M.still M.text }
+{}
+
+/// What a crash left behind the groups of a journal, not all of a group and of which no group is read, changes nothing:
+/// the file leads where its groups lead.
+pub fn unread_bytes_change_nothing<M: Machine>()
+    ensures { UnreadBytesChangeNothing M.head M.named_state M.named M.step }
 {}
 
 /// A journal whose groups each end in a record that repeats them: of groups that were put there and synced, and

@@ -48,7 +48,7 @@ pub use memory_disk::MemoryDisk;
 pub use outlet::{Outlet, OutletFault, Unserved};
 pub use record::Record;
 pub use records::{head_line, record_line, text_of_head};
-pub use recovery::{Unplayed, recover};
+pub use recovery::{Unplayed, new_journal, recover};
 pub use serving::{serve_all, serve_groups};
 pub use staging::{Staged, Uncommitted, Unstaged};
 pub use starts::start_again;

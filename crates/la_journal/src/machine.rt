@@ -48,6 +48,9 @@ pub trait Machine: Drop {
     /// Whether a refusal is for want of memory.
     ghost lacks_memory: { Self.Refusal → Type 0 };
 
+    /// Whether an input is refused so at a state.
+    ghost refuses: { State → Self.Input → Self.Refusal → Type 0 };
+
     /// What a journal's first line says of the machine that wrote it, as its options. A journal with another head is
     /// not played.
     ghost head: { State → List ℕ };
@@ -61,6 +64,7 @@ pub trait Machine: Drop {
         ensures step { OnOk result (step (state self.old) (call input.now) ≡ Some (state self.new)) }
         ensures answer { IfOk result (λ output. answer output ≡ answers (state self.old) (call input.now)) }
         ensures refusal { IfErr result (λ refusal. lacks_memory refusal ⊎ (step (state self.old) (call input.now) ≡ None)) }
+        ensures cause { IfErr result (refuses (state self.old) input.now) }
         ensures err { OnErr result (state self.new ≡ state self.old) };
 
     /// Whether the call that was answered so has left the machine as it was, for sure. [`crate::Staged`] alone passes

@@ -2,18 +2,18 @@
 ghost use Rattle.std.specs.Prelude.{◌≡◌, ◌≢◌, ◌++◌, ◌∷◌, ◌+◌, ◌<◌, ◌≤◌, ◌^◌, ◌||◌, [], false, Some, None, length, IfOk, IfErr, OnOk, IfSome};
 ghost use Rattle.la_journal.specs.Commits.{groups, last_record};
 ghost use Rattle.la_journal.specs.Disk.{LeavesOnly, MayBeOr, Only};
-ghost use Rattle.la_journal.specs.Records.{parts, ended, end_count, link, record_line, behind};
+ghost use Rattle.la_journal.specs.Records.{parts, ended, end_count, head_line, link, record_line, behind};
 ghost use Rattle.la_journal.specs.Journal.{lines, journal, state_in, in_a_row};
 ghost use Rattle.la_journal.specs.Machine.{state_after, lines_lead};
 ghost use Rattle.la_journal.specs.Durable.{IsSettled, IsSameOr, IsUntouched, alike};
-ghost use Rattle.la_journal.specs.Playing.{leads_more, are_some, rest_in, StopsAt, StopsFrom, StopsAmong, IsNotPlayed, IsPlayed, HasNothingBehind};
+ghost use Rattle.la_journal.specs.Playing.{leads_more, are_some, rest_in, StopsAt, StopsFrom, StopsAmong, IsNotPlayed, IsPlayed, HasNothingBehind, recovered_file};
 ghost use Rattle.la_journal.specs.declared.recovery.Unplayed.TheVariants.{Disk as Failed};
 
 use crate::damage::is_damage;
 use crate::grouped::{Head, head_of, line_end, next_group};
 use crate::records::{DIGITS, digest, end_count, link, new_file};
 use crate::{Disk, DiskFault, Durable, Machine};
-use std::alloc::Global;
+use std::alloc::{AllocError, Global};
 
 /// Why a journal was not played. The file is as it was, or after `Disk` maybe a file of the same groups. Lines are
 /// counted from 1, the head and records too.
@@ -68,6 +68,8 @@ pub fn recover<M: Machine, D: Disk>(
     ensures settled { IfOk result (λ durable. (durable.closed ≡ false) × IsSettled D.seen D.may_leave durable.disk) }
     ensures same { IfOk result (λ durable. lines (D.seen durable.disk) ≡ lines (D.seen disk)) }
     ensures cut { IfOk result (λ durable. durable.cut ≡ length (rest_in (parts (D.seen disk)))) }
+    ensures written { IfOk result (λ durable. D.seen durable.disk
+        ≡ recovered_file (M.head (M.state start)) (D.seen disk)) }
     ensures later { IfOk result (λ durable. D.faults disk ≤ D.faults durable.disk) }
 
     // A crash at any moment leaves what might have been left before, or a file that leads to the same.
@@ -99,6 +101,13 @@ pub fn recover<M: Machine, D: Disk>(
         }
         Err(why) => Err((why, disk)),
     }
+}
+
+/// The bytes of a new journal of a machine: its head alone, which [`recover`] plays as a journal of no call.
+pub fn new_journal<M: Machine>(alloc: Global, machine: &M) -> Result<Vec<u8>, AllocError>
+    ensures { IfOk result (λ file. file.items ≡ head_line (M.head (M.state machine.now)) ++ 10 ∷ []) }
+{
+    new_file(alloc, &machine.head(alloc)?)
 }
 
 /// Puts the bytes of a head and groups on the disk, and these aside that stand behind them.

@@ -6,12 +6,13 @@ ghost use Rattle.la_journal.specs.Journal.{lines};
 ghost use Rattle.la_journal.specs.Records.{ended};
 ghost use Rattle.la_journal.specs.Machine.{state_after, steps, LeadsToSome};
 ghost use Rattle.la_journal.specs.Durable.{IsSettled};
-ghost use Rattle.la_journal.specs.Staging.{IsStageRefusal, IsNotCommitted, kept_unless, are_no_records, room_for};
+ghost use Rattle.la_journal.specs.Staging.{IsStageRefusal, IsRefusedBy, IsNotCommitted, kept_unless, are_no_records, room_for};
 
 use crate::durable::encode;
 use crate::records::ROOM;
 use crate::{Disk, DiskFault, Durable, Machine};
 use std::alloc::Global;
+use std::mem;
 use thiserror::Error;
 
 /// Why staged lines are not on the disk. The machine is ahead of the file.
@@ -46,6 +47,8 @@ pub struct Staged<M: Machine, D: Disk> {
     pub durable: Durable<M, D>,
     // The lines that the file has not, each with its end.
     pub text: Vec<u8>,
+    /// What the last commit put behind the file: its lines and their record, or nothing where no line was staged.
+    pub written: Vec<u8>,
     ghost whole: { text.items ≡ file_of (ended text.items) },
     ghost plain: { are_no_records (ended text.items) ≡ true },
     // And there is room for their record.
@@ -57,10 +60,12 @@ impl<M: Machine, D: Disk> Staged<M, D> {
     pub fn new(alloc: Global, durable: Durable<M, D>) -> Staged<M, D>
         ensures durable { result.durable ≡ durable }
         ensures nothing { result.text.items ≡ [] }
+        ensures none_written { result.written.items ≡ [] }
     {
         Staged {
             durable,
             text: Vec::new(alloc),
+            written: Vec::new(alloc),
         }
     }
 
@@ -80,8 +85,10 @@ impl<M: Machine, D: Disk> Staged<M, D> {
             × (M.state self.new.durable.machine ≡ M.state self.old.durable.machine)) }
         ensures cause { IfErr result (IsStageRefusal M.lacks_memory self.old.durable.closed
             (M.step (M.state self.old.durable.machine) (M.call input.now))) }
+        ensures refused { IfErr result (IsRefusedBy (M.refuses (M.state self.old.durable.machine) input.now)) }
         ensures closed { self.new.durable.closed ≡ self.old.durable.closed }
         ensures disk { self.new.durable.disk ≡ self.old.durable.disk }
+        ensures written { self.new.written.items ≡ self.old.written.items }
     {
         if self.durable.closed {
             return Err(Unstaged::Closed);
@@ -110,6 +117,9 @@ impl<M: Machine, D: Disk> Staged<M, D> {
         ensures ok { OnOk result ((self.new.durable.closed ≡ false)
             × (lines (D.seen self.new.durable.disk) ≡ lines (D.seen self.old.durable.disk) ++ ended self.old.text.items)
             × (self.new.text.items ≡ [])) }
+        ensures written { OnOk result (D.seen self.new.durable.disk
+            ≡ D.seen self.old.durable.disk ++ self.new.written.items) }
+        ensures none { OnOk result (self.old.text.items ≡ [] → self.new.written.items ≡ []) }
         ensures machine { self.new.durable.machine ≡ self.old.durable.machine }
         ensures open { self.new.durable.closed ≡ false → IsSettled D.seen D.may_leave self.new.durable.disk }
         ensures same { OnErr result ((self.new.text.items ≡ self.old.text.items)
@@ -136,11 +146,13 @@ impl<M: Machine, D: Disk> Staged<M, D> {
             return Err(Uncommitted::Closed);
         }
         if self.text.is_empty() {
+            self.written.clear();
             return Ok(());
         }
         let staged = self.text.len();
         match self.durable.keep(&mut self.text) {
             Ok(()) => {
+                mem::swap(&mut self.text, &mut self.written);
                 self.text.clear();
                 Ok(())
             }

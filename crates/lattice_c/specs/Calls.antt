@@ -1,5 +1,6 @@
 -- What a call of C does to a node, and the status that says so.
-use Rattle.std.specs.Prelude.{◌≡◌, ◌⊎◌, ◌<◌, ℕ, ◌==◌, Bool, true, false, List, [], ◌∷◌, ◌++◌, length, drop, slice_get}
+use Rattle.std.specs.Prelude.{◌≡◌, ◌⊎◌, ⊤, ◌<◌, ℕ, ◌==◌, Bool, true, false, List, [], ◌∷◌, ◌++◌, length, drop}
+use Rattle.std.specs.Prelude.{slice_get}
 use Rattle.std.specs.Prelude.{Option, Some, None, if◌then◌else◌}
 use Rattle.std.specs.Prelude.{ℤ}
 use Rattle.la_set.specs.declared.update.Op.{Op}
@@ -20,12 +21,20 @@ use Rattle.la_object.specs.Refusals.{IsAddRefusal, IsAskRefusal}
 use Rattle.la_object.specs.Shelves.{kind_at, answer_at, tags_at}
 use Rattle.la_node.specs.Nodes.{returned_by}
 use Rattle.la_wire.specs.Calls.{Submit, Decide}
-use Rattle.la_durable.specs.Errors.{RefusesSubmission, RefusesProposal}
+use Rattle.la_proposer.specs.ProposerState.{op_on}
 use Rattle.la_embed.specs.declared.outgoing.Outgoing.{Outgoing}
-use Rattle.la_embed.specs.Hosts.{HostState, TakesCall, shelf_now, submitted_by, with_mail, with_objects, IsUnseen}
+use Rattle.la_embed.specs.Hosts.{HostState, TakesCall, shelf_now, submitted_by, with_journal, with_mail}
+use Rattle.la_embed.specs.Hosts.{with_objects, IsUnseen}
+use Rattle.la_embed.specs.Journals.{AllIsKept, MakesRecord, record_in, journal_synced}
+use Rattle.la_embed.specs.Numbers.{RefusesToSubmit, RefusesToPropose}
 use Rattle.la_embed.specs.Outgoing.{receiver, outgoing_text}
 use Rattle.la_embed.specs.Receiving.{BringsOwn, own_first}
 use Rattle.lattice_c.specs.Statuses.{EndsSo, status_of_node, status_of_own, status_of_shelf}
+
+-- what the node keeps is told only once it is on the disk; 28 says that it is not yet
+abbrev pub WhereKept : HostState → (status : ℕ) → (Same Does : Type 0) → Type 0
+WhereKept before status Same Does =
+    (AllIsKept before.journal × Does) ⊎ ((AllIsKept before.journal → ⊥) × (status ≡ 28) × Same)
 
 -- ## Submissions
 
@@ -39,14 +48,14 @@ HasSubmitted before object op after told =
     TakesCall before before.links (Submit before.kept.own object op) after × (told ≡ submitted_by after)
 
 -- it was refused
-abbrev pub SubmitFails : HostState → (number status told : ℕ) → HostState → Type 0
-SubmitFails before number status told after =
+abbrev pub SubmitFails : HostState → (object : ℕ) → Op → (number status told : ℕ) → HostState → Type 0
+SubmitFails before object op number status told after =
     IsAsBefore before after number told
-    × EndsSo ⊥ (RefusesSubmission before.kept before.kept.own) status_of_node status
+    × EndsSo ⊥ (RefusesToSubmit before (op_on object op)) status_of_node status
 
 abbrev pub SubmitsFor : HostState → (object : ℕ) → Op → (number status told : ℕ) → HostState → Type 0
 SubmitsFor before object op number status told after =
-    ((status ≡ 0) × HasSubmitted before object op after told) ⊎ SubmitFails before number status told after
+    ((status ≡ 0) × HasSubmitted before object op after told) ⊎ SubmitFails before object op number status told after
 
 -- an operation of one's own is made first
 abbrev pub SubmitsOwn : HostState → (object : ℕ) → (bytes : List ℕ) → (number status told : ℕ) → HostState → Type 0
@@ -59,7 +68,7 @@ SubmitsOwn before object bytes number status told after =
 abbrev pub Proposes : HostState → (commit value status : ℕ) → HostState → Type 0
 Proposes before commit value status after =
     ((status ≡ 0) × TakesCall before before.links (Decide before.kept.own commit value) after)
-    ⊎ ((after ≡ before) × EndsSo ⊥ (RefusesProposal before.kept before.kept.own commit) status_of_node status)
+    ⊎ ((after ≡ before) × EndsSo ⊥ (RefusesToPropose before commit value) status_of_node status)
 
 abbrev pub number_of_bool : Bool → ℕ
 number_of_bool true = 1
@@ -72,7 +81,8 @@ IsToldOutcome (Some o) status value committed =
     (status ≡ 0) × (value ≡ value_of o) × (committed ≡ number_of_bool (is_commit o))
 
 abbrev pub TellsOutcome : HostState → (commit status value committed : ℕ) → Type 0
-TellsOutcome node commit status value committed = IsToldOutcome (returned_by commit node.kept) status value committed
+TellsOutcome node commit status value committed =
+    WhereKept node status ⊤ (IsToldOutcome (returned_by commit node.kept) status value committed)
 
 -- ## Objects
 
@@ -98,7 +108,8 @@ abbrev pub IsAsked : {V : Type 0} → (Answer → Option V) → HostState → (o
     → HostState → Type 0
 IsAsked part before object query status told after =
     (after ≡ with_objects before after.shelf)
-    × (((status ≡ 0) × ((answer : Answer) × (answer_at (shelf_now before) object query ≡ Some answer)
+    × WhereKept before status ⊤
+    (((status ≡ 0) × ((answer : Answer) × (answer_at (shelf_now before) object query ≡ Some answer)
     × (part answer ≡ Some told)))
     ⊎ (((status ≡ 4) × ((answer : Answer) × (answer_at (shelf_now before) object query ≡ Some answer)
     × (part answer ≡ None)))
@@ -143,7 +154,8 @@ abbrev pub AsksItems : HostState → (object : ℕ) → (buffer : List ℕ) → 
     → Type 0
 AsksItems before object buffer status len given after =
     (after ≡ with_objects before after.shelf)
-    × (((told : Answer) × (answer_at (shelf_now before) object Items ≡ Some told)
+    × WhereKept before status (given ≡ buffer)
+    (((told : Answer) × (answer_at (shelf_now before) object Items ≡ Some told)
     × ((items : List ℕ) × (items_in told ≡ Some items) × AreFilledIn items buffer status len given))
     ⊎ (((status ≡ 4) × (given ≡ buffer) × ((told : Answer) × (answer_at (shelf_now before) object Items ≡ Some told)
     × (items_in told ≡ None)))
@@ -176,7 +188,33 @@ pub record HandsMail (before : HostState) (buffer : List ℕ) (status to len : �
   pub settled : HostState
   pub states : List HostState
   pub brought : AreBrought states before settled
-  pub handed : IsHandedOver settled (slice_get settled.mail 0) buffer status to len given after
+  pub handed : WhereKept settled status ((given ≡ buffer) × (after ≡ settled))
+      (IsHandedOver settled (slice_get settled.mail 0) buffer status to len given after)
+
+-- ## Records
+
+-- what is handed over of a record
+abbrev pub IsHandedOut : (bytes : List ℕ) → (buffer : List ℕ) → (status len : ℕ) → (given : List ℕ) → Type 0
+IsHandedOut [] buffer status len given = (status ≡ 2) × (given ≡ buffer)
+IsHandedOut (b ∷ bytes) buffer status len given =
+    (len ≡ length (b ∷ bytes))
+    × (((status ≡ 0) × (given ≡ filled (b ∷ bytes) buffer))
+    ⊎ ((status ≡ 3) × (length buffer < length (b ∷ bytes)) × (given ≡ buffer)))
+
+-- it is made once the node has taken in what it sends itself
+pub record HandsRecord (before : HostState) (buffer : List ℕ) (status len : ℕ) (given : List ℕ) (after : HostState)
+    : Type 0 where
+  pub settled : HostState
+  pub states : List HostState
+  pub brought : AreBrought states before settled
+  pub made : MakesRecord settled.journal after.journal
+  pub same : after ≡ with_journal settled after.journal
+  pub handed : IsHandedOut (record_in after.journal) buffer status len given
+
+-- the record that was handed over is on the disk; 2 says that none was
+abbrev pub IsSynced : HostState → (handed : Bool) → (status : ℕ) → HostState → Type 0
+IsSynced before true status after = (status ≡ 0) × (after ≡ with_journal before (journal_synced before.journal))
+IsSynced before false status after = (status ≡ 2) × (after ≡ before)
 
 -- ## What is taken out
 

@@ -7,9 +7,9 @@ use Rattle.la_set.specs.declared.update.Op.TheVariants as op
 use Rattle.la_set.specs.declared.update.Update.{Update}
 use Rattle.la_own.specs.Own.{own_bytes_of}
 use Rattle.la_embed.specs.Hosts.{HostState, with_handed}
-use Rattle.la_embed.specs.Learnt.{IsNextLearnt, HandsOnNext}
+use Rattle.la_embed.specs.Learnt.{IsNextLearnt, handed_noting}
 use Rattle.lattice_c.specs.declared.learning.Learnt.{Learnt}
-use Rattle.lattice_c.specs.Calls.{filled}
+use Rattle.lattice_c.specs.Calls.{WhereKept, filled}
 
 -- what an operation does, as a number
 abbrev pub kind_told : Op → ℕ
@@ -51,15 +51,21 @@ abbrev pub TellsNext : HostState → Option Update → (buffer : List ℕ) → (
 TellsNext before None buffer status out len given after = (status ≡ 2) × (given ≡ buffer) × (after ≡ before)
 TellsNext before (Some u) buffer status out len given after =
     ((status ≡ 0) × IsTold u (own_bytes_of u.op) buffer true out len given
-    × (after ≡ with_handed before after.handed) × HandsOnNext before.kept.view before.handed after.handed)
+    × (after ≡ with_handed before (handed_noting before.handed u.id)))
     ⊎ ((status ≡ 3) × IsTold u (own_bytes_of u.op) buffer false out len given × (after ≡ before))
 
 abbrev pub TellsLearnt : HostState → (buffer : List ℕ) → (status : ℕ) → Learnt → (len : ℕ) → (given : List ℕ)
     → HostState
     → Type 0
 TellsLearnt before buffer status out len given after =
-    (next : Option Update) × IsNextLearnt before.handed before.kept.view next
-    × TellsNext before next buffer status out len given after
+    WhereKept before status ((given ≡ buffer) × (after ≡ before))
+    ((next : Option Update) × IsNextLearnt before.handed before.kept.view next
+    × TellsNext before next buffer status out len given after)
+
+-- a thing is told, where the node may tell it, and else stays as it was
+abbrev pub IsToldWhereKept : {V : Type 0} → HostState → (told before : V) → (status : ℕ) → V → Type 0
+IsToldWhereKept node told before status after =
+    WhereKept node status (after ≡ before) ((status ≡ 0) × (after ≡ told))
 
 -- how many updates there are of each of eight replicas
 abbrev pub eight : Counts → List ℕ

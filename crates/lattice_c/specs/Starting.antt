@@ -6,7 +6,10 @@ use Rattle.la_node.specs.declared.config.Config.{Config}
 use Rattle.la_node.specs.Configs.{IsConfig}
 use Rattle.la_node.specs.Nodes.{IsStartRefusal}
 use Rattle.la_durable.specs.Nodes.{empty_shelf}
-use Rattle.lattice_c.specs.Statuses.{EndsSo, status_of_world}
+use Rattle.la_replica.specs.ReplicaState.{ReplicaState}
+use Rattle.la_embed.specs.declared.error.Unrecovered.{Unrecovered}
+use Rattle.la_embed.specs.Journals.{JournalState, IsRecovered, IsNotRecovered}
+use Rattle.lattice_c.specs.Statuses.{EndsSo, status_of_world, status_of_unrecovered, line_of_unrecovered}
 
 -- these votes, or one for each replica where there are none
 abbrev pub given_votes : (replicas : ℕ) → List ℕ → List ℕ
@@ -29,4 +32,18 @@ abbrev pub MakesNode : (replicas own commits cap : ℕ) → List ℕ → (status
 MakesNode replicas own commits cap votes status =
     ((c : Config) × IsGroupTold c replicas commits cap votes
     × EndsSo (IsConfig c) (IsStartRefusal c own empty_shelf) status_of_world status)
+    ⊎ (((status ≡ 10) × (¬ IsGroup (given_votes replicas votes))) ⊎ (status ≡ 1))
+
+-- the journal was played, and so many bytes of it are to be kept; or it was not, and the line is told that is damaged
+abbrev pub IsRecoveredOrNot : Config → (own : ℕ) → (found : List ℕ) → (line_before status keep line : ℕ) → Type 0
+IsRecoveredOrNot c own found line_before status keep line =
+    ((status ≡ 0) × ((kept : ReplicaState) × (j : JournalState) × IsRecovered c own found keep kept j))
+    ⊎ ((e : Unrecovered) × IsNotRecovered c own found e × (status ≡ status_of_unrecovered e)
+    × (line ≡ line_of_unrecovered e line_before))
+
+abbrev pub RecoversNode : (replicas own commits cap : ℕ) → (votes found : List ℕ) → (line_before status keep line : ℕ)
+    → Type 0
+RecoversNode replicas own commits cap votes found line_before status keep line =
+    ((c : Config) × IsGroupTold c replicas commits cap votes
+    × IsRecoveredOrNot c own found line_before status keep line)
     ⊎ (((status ≡ 10) × (¬ IsGroup (given_votes replicas votes))) ⊎ (status ≡ 1))

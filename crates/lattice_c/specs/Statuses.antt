@@ -14,6 +14,10 @@ use Rattle.la_embed.specs.declared.error.NumberError.{NumberError}
 use Rattle.la_embed.specs.declared.error.NumberError.TheVariants as number
 use Rattle.la_object.specs.declared.error.ShelfError.{ShelfError}
 use Rattle.la_object.specs.declared.error.ShelfError.TheVariants as shelf
+use Rattle.la_journal.specs.declared.recovery.Unplayed.{Unplayed}
+use Rattle.la_journal.specs.declared.recovery.Unplayed.TheVariants as unplayed
+use Rattle.la_embed.specs.declared.error.Unrecovered.{Unrecovered}
+use Rattle.la_embed.specs.declared.error.Unrecovered.TheVariants as unrecovered
 use Rattle.la_own.specs.declared.error.OwnError.{OwnError}
 use Rattle.la_own.specs.declared.error.OwnError.TheVariants as own
 
@@ -71,6 +75,44 @@ status_of_shelf shelf.Memory = 1
 abbrev pub status_of_own : OwnError → ℕ
 status_of_own own.TooLong = 9
 status_of_own own.Memory = 1
+
+-- a journal's line is refused for want of memory, or it is damaged
+abbrev pub status_of_line_refused : NodeError → ℕ
+status_of_line_refused node.Memory = 1
+status_of_line_refused _ = 31
+
+abbrev pub status_of_unplayed : Unplayed NodeError → ℕ
+status_of_unplayed unplayed.Memory = 1
+status_of_unplayed unplayed.Disk = 1
+status_of_unplayed unplayed.NoHead = 29
+status_of_unplayed (unplayed.OtherHead place) = 30
+status_of_unplayed (unplayed.NoState line) = 31
+status_of_unplayed (unplayed.NoCall line) = 31
+status_of_unplayed (unplayed.Misplaced line) = 31
+status_of_unplayed (unplayed.Refused line e) = status_of_line_refused e
+status_of_unplayed (unplayed.Damaged line) = 31
+
+abbrev pub status_of_unrecovered : Unrecovered → ℕ
+status_of_unrecovered (unrecovered.Group e) = status_of_world e
+status_of_unrecovered (unrecovered.Journal why) = status_of_unplayed why
+status_of_unrecovered unrecovered.Memory = 1
+
+-- the line of a journal at which it is damaged, or what was told before
+abbrev pub line_refused : NodeError → (line before : ℕ) → ℕ
+line_refused node.Memory line before = before
+line_refused _ line before = line
+
+abbrev pub line_of_unplayed : Unplayed NodeError → ℕ → ℕ
+line_of_unplayed (unplayed.NoState line) before = line
+line_of_unplayed (unplayed.NoCall line) before = line
+line_of_unplayed (unplayed.Misplaced line) before = line
+line_of_unplayed (unplayed.Refused line e) before = line_refused e line before
+line_of_unplayed (unplayed.Damaged line) before = line
+line_of_unplayed _ before = before
+
+abbrev pub line_of_unrecovered : Unrecovered → ℕ → ℕ
+line_of_unrecovered (unrecovered.Journal why) before = line_of_unplayed why before
+line_of_unrecovered _ before = before
 
 -- how a call ends: with 0, and then this holds; or with the status of an error of which that holds
 abbrev pub EndsSo : {E : Type 0} → (Good : Type 0) → (E → Type 0) → (E → ℕ) → ℕ → Type 0

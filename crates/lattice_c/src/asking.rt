@@ -4,16 +4,21 @@ ghost use Rattle.la_object.specs.declared.query.Query.TheVariants.{Total, AtLeas
 ghost use Rattle.lattice_c.specs.Calls.{IsAsked, total_in, reached_in, largest_in, has_in, size_in, AsksItems};
 
 use crate::handle::Handle;
-use crate::status::{FOREIGN, OK, SMALL, status_of_shelf};
+use crate::status::{FOREIGN, OK, SMALL, UNKEPT, status_of_shelf};
 use la_object::{Answer, Query};
 
 /// A counter's total: its increments less its decrements. `NO_OBJECT` comes where there is no such object, `FOREIGN`
-/// where it is of another kind, and `MEMORY`; so it is of each question.
+/// where it is of another kind, `UNKEPT` where what the node took is not on the disk yet, and `MEMORY`; so it is of each
+/// question.
 #[unsafe(no_mangle)]
 pub extern "C" fn lattice_total(handle: &mut Handle, object: u16, total: &mut i64) -> u8
     ensures { IsAsked total_in handle.old.host.host object Total result total.new handle.new.host.host }
 {
-    match handle.inner().host.ask(object, &Query::Total) {
+    let host = &mut handle.inner().host;
+    if !host.is_kept() {
+        return UNKEPT;
+    }
+    match host.ask(object, &Query::Total) {
         Ok(Answer::Total(sum)) => {
             *total = sum;
             OK
@@ -33,7 +38,11 @@ pub extern "C" fn lattice_at_least(
 ) -> u8
     ensures { IsAsked reached_in handle.old.host.host object (AtLeast bound) result reached.new handle.new.host.host }
 {
-    match handle.inner().host.ask(object, &Query::AtLeast(bound)) {
+    let host = &mut handle.inner().host;
+    if !host.is_kept() {
+        return UNKEPT;
+    }
+    match host.ask(object, &Query::AtLeast(bound)) {
         Ok(Answer::Reached(yes)) => {
             *reached = u8::from(yes);
             OK
@@ -48,7 +57,11 @@ pub extern "C" fn lattice_at_least(
 pub extern "C" fn lattice_largest(handle: &mut Handle, object: u16, largest: &mut u64) -> u8
     ensures { IsAsked largest_in handle.old.host.host object Largest result largest.new handle.new.host.host }
 {
-    match handle.inner().host.ask(object, &Query::Largest) {
+    let host = &mut handle.inner().host;
+    if !host.is_kept() {
+        return UNKEPT;
+    }
+    match host.ask(object, &Query::Largest) {
         Ok(Answer::Largest(value)) => {
             *largest = value;
             OK
@@ -63,7 +76,11 @@ pub extern "C" fn lattice_largest(handle: &mut Handle, object: u16, largest: &mu
 pub extern "C" fn lattice_has(handle: &mut Handle, object: u16, element: u64, has: &mut u8) -> u8
     ensures { IsAsked has_in handle.old.host.host object (Has element) result has.new handle.new.host.host }
 {
-    match handle.inner().host.ask(object, &Query::Has(element)) {
+    let host = &mut handle.inner().host;
+    if !host.is_kept() {
+        return UNKEPT;
+    }
+    match host.ask(object, &Query::Has(element)) {
         Ok(Answer::Has(yes)) => {
             *has = u8::from(yes);
             OK
@@ -78,7 +95,11 @@ pub extern "C" fn lattice_has(handle: &mut Handle, object: u16, element: u64, ha
 pub extern "C" fn lattice_size(handle: &mut Handle, object: u16, size: &mut u64) -> u8
     ensures { IsAsked size_in handle.old.host.host object Size result size.new handle.new.host.host }
 {
-    match handle.inner().host.ask(object, &Query::Size) {
+    let host = &mut handle.inner().host;
+    if !host.is_kept() {
+        return UNKEPT;
+    }
+    match host.ask(object, &Query::Size) {
         Ok(Answer::Size(count)) => {
             *size = count;
             OK
@@ -99,7 +120,11 @@ pub extern "C" fn lattice_items(
 ) -> u8
     ensures { AsksItems handle.old.host.host object buffer.old result len.new buffer.new handle.new.host.host }
 {
-    match handle.inner().host.ask(object, &Query::Items) {
+    let host = &mut handle.inner().host;
+    if !host.is_kept() {
+        return UNKEPT;
+    }
+    match host.ask(object, &Query::Items) {
         Ok(Answer::Items(items)) => {
             let items = items.all();
             let count = items.len();

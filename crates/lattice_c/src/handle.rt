@@ -26,9 +26,13 @@ pub struct Place {
     pub at: *mut u8,
 }
 
+// Its check asks for the proof that such a value may go to another thread.
+fn crosses<T: Send>() {}
+
 impl Place {
     /// What a box leads to is the host's from then on.
     pub fn of(host: Box<Embedded>) -> Place {
+        crosses::<Handle>();
         Place {
             at: NonNull::from_mut(Box::leak(host)).cast::<u8>().as_ptr(),
         }
@@ -52,3 +56,6 @@ impl Drop for Handle {
         drop(self.into_parts().into_box());
     }
 }
+
+// Nothing that it leads to is bound to a thread.
+unsafe impl Send for Handle {}

@@ -4,10 +4,10 @@ ghost use Rattle.la_set.specs.Counts.{counts_of};
 ghost use Rattle.la_own.specs.Own.{own_bytes_of};
 ghost use Rattle.la_node.specs.Links.{known_of};
 ghost use Rattle.la_embed.specs.Hosts.{submitted_by};
-ghost use Rattle.lattice_c.specs.Learning.{kind_told, value_told, learnt_told, eight, IsTold, TellsLearnt};
+ghost use Rattle.lattice_c.specs.Learning.{kind_told, value_told, learnt_told, eight, IsTold, IsToldWhereKept, TellsLearnt};
 
 use crate::handle::Handle;
-use crate::status::{NONE, OK, SMALL};
+use crate::status::{NONE, OK, SMALL, UNKEPT};
 use la_own::own_bytes;
 use la_set::{Counts, Op, Update};
 
@@ -80,7 +80,7 @@ fn hand(update: &Update, out: &mut Learnt, buffer: &mut [u8], len: &mut usize) -
 /// numbers. Of an operation of one's own the bytes go into a buffer, and how many they are is told.
 ///
 /// `NONE` comes where there is no further one; `SMALL` where the buffer has less room than there are bytes, and then the
-/// update stays.
+/// update stays; `UNKEPT` where what the node took is not on the disk yet.
 #[unsafe(no_mangle)]
 pub extern "C" fn lattice_next_learnt(
     handle: &mut Handle,
@@ -91,13 +91,17 @@ pub extern "C" fn lattice_next_learnt(
     ensures { TellsLearnt handle.old.host.host buffer.old result out.new len.new buffer.new handle.new.host.host }
 {
     let inner = handle.inner();
+    if !inner.host.is_kept() {
+        return UNKEPT;
+    }
     let Some(update) = inner.host.next_learnt() else {
         return NONE;
     };
     if !hand(update, out, buffer, len) {
         return SMALL;
     }
-    inner.host.handed_on();
+    let id = update.id;
+    inner.host.handed_on(id);
     OK
 }
 
@@ -117,30 +121,48 @@ fn eight(counts: Counts) -> [u32; 8]
     ]
 }
 
-/// How many updates of each replica the view has.
+/// How many updates of each replica the view has. `UNKEPT` comes where what the node took is not on the disk yet.
 #[unsafe(no_mangle)]
-pub extern "C" fn lattice_view(handle: &mut Handle, counts: &mut [u32; 8])
-    ensures told { counts.new ≡ eight (counts_of handle.old.host.host.kept.view) }
+pub extern "C" fn lattice_view(handle: &mut Handle, counts: &mut [u32; 8]) -> u8
+    ensures told { IsToldWhereKept handle.old.host.host (eight (counts_of handle.old.host.host.kept.view)) counts.old result
+        counts.new }
     ensures same { handle.new.host.host ≡ handle.old.host.host }
 {
-    *counts = eight(handle.inner().host.view().counts());
+    let host = &handle.inner().host;
+    if !host.is_kept() {
+        return UNKEPT;
+    }
+    *counts = eight(host.view().counts());
+    OK
 }
 
 /// How many updates of each replica another node's view has at least, as far as was heard: none, of a replica of 8 or
-/// more.
+/// more. `UNKEPT` comes where what the node took is not on the disk yet.
 #[unsafe(no_mangle)]
-pub extern "C" fn lattice_known(handle: &mut Handle, replica: u8, counts: &mut [u32; 8])
-    ensures told { counts.new ≡ eight (known_of handle.old.host.host.links replica).view }
+pub extern "C" fn lattice_known(handle: &mut Handle, replica: u8, counts: &mut [u32; 8]) -> u8
+    ensures told { IsToldWhereKept handle.old.host.host (eight (known_of handle.old.host.host.links replica).view)
+        counts.old result counts.new }
     ensures same { handle.new.host.host ≡ handle.old.host.host }
 {
-    *counts = eight(handle.inner().host.known(replica).view);
+    let host = &handle.inner().host;
+    if !host.is_kept() {
+        return UNKEPT;
+    }
+    *counts = eight(host.known(replica).view);
+    OK
 }
 
-/// How many updates the node has submitted: the number of the last.
+/// How many updates the node has submitted: the number of the last. `UNKEPT` comes where what the node took is not on the
+/// disk yet.
 #[unsafe(no_mangle)]
-pub extern "C" fn lattice_submitted(handle: &mut Handle) -> u32
-    ensures told { result ≡ submitted_by handle.old.host.host }
+pub extern "C" fn lattice_submitted(handle: &mut Handle, number: &mut u32) -> u8
+    ensures told { IsToldWhereKept handle.old.host.host (submitted_by handle.old.host.host) number.old result number.new }
     ensures same { handle.new.host.host ≡ handle.old.host.host }
 {
-    handle.inner().host.submitted()
+    let host = &handle.inner().host;
+    if !host.is_kept() {
+        return UNKEPT;
+    }
+    *number = host.submitted();
+    OK
 }

@@ -10,6 +10,7 @@ mod learning;
 mod lending;
 mod mail;
 mod parts;
+mod recording;
 mod starting;
 mod status;
 mod submitting;
@@ -20,7 +21,10 @@ pub use asking::{
 pub use handle::{Handle, Place};
 pub use learning::{Learnt, lattice_known, lattice_next_learnt, lattice_submitted, lattice_view};
 pub use mail::{lattice_again, lattice_next_mail, lattice_receive};
-pub use starting::{lattice_add, lattice_node_free, lattice_node_new, lattice_version};
+pub use recording::{lattice_next_record, lattice_synced};
+pub use starting::{
+    lattice_add, lattice_node_free, lattice_node_new, lattice_node_recover, lattice_version,
+};
 pub use submitting::{
     lattice_dec, lattice_inc, lattice_mark, lattice_outcome, lattice_own, lattice_propose,
     lattice_put, lattice_raise, lattice_remove, lattice_submit_at,

@@ -1,10 +1,13 @@
 // Nodes made and freed, and their objects.
 ghost use Rattle.std.specs.Prelude.{◌≡◌};
 ghost use Rattle.lattice_c.specs.Calls.{kind_numbered, AddsObject};
-ghost use Rattle.lattice_c.specs.Starting.{AreGivenVotes, MakesNode};
+ghost use Rattle.lattice_c.specs.Starting.{AreGivenVotes, MakesNode, RecoversNode};
 
 use crate::handle::{Handle, Place};
-use crate::status::{BAD_GROUP, BAD_KIND, MEMORY, OK, status_of_shelf, status_of_world};
+use crate::status::{
+    BAD_GROUP, BAD_KIND, MEMORY, OK, line_of_unrecovered, status_of_shelf, status_of_unrecovered,
+    status_of_world,
+};
 use la_embed::{AnyObject, Embedded};
 use la_node::Config;
 use la_object::Kind;
@@ -14,9 +17,9 @@ use std::alloc::Global;
 /// The version of this interface: it grows where a call changes or goes.
 #[unsafe(no_mangle)]
 pub extern "C" fn lattice_version() -> u32
-    ensures { result ≡ 1 }
+    ensures { result ≡ 2 }
 {
-    1
+    2
 }
 
 // The votes of a group: these, or one for each replica where there are none.
@@ -65,6 +68,57 @@ pub extern "C" fn lattice_node_new(
     };
     match Box::new(alloc, node) {
         Ok(node) => {
+            *out = Place::of(node);
+            OK
+        }
+        Err(_) => MEMORY,
+    }
+}
+
+/// Makes the same replica of the same group as before of what was found in its journal, and puts it into a place, which
+/// then is a handle. No byte at all is a new journal. Told is how many of the bytes the journal is to keep: behind them
+/// stands what a crash left of a record, which is to be cut off, on the disk, before anything is put behind. Objects are
+/// added anew, and all updates are handed over anew.
+///
+/// In this order: as `lattice_node_new` ends, and `NO_JOURNAL`, `OTHER_JOURNAL` and `DAMAGED`, and then the line is told,
+/// from 1. Then the place is as before.
+#[unsafe(no_mangle)]
+pub extern "C" fn lattice_node_recover(
+    alloc: Global,
+    replicas: u8,
+    own: u8,
+    commits: u8,
+    cap: u32,
+    votes: &[u16],
+    found: &[u8],
+    keep: &mut usize,
+    line: &mut usize,
+    out: &mut Place,
+) -> u8
+    ensures { RecoversNode replicas own commits cap votes.now found.now line.old result keep.new line.new }
+{
+    let Some(votes) = votes_of(replicas, votes) else {
+        return BAD_GROUP;
+    };
+    let config = Config {
+        replicas,
+        commits,
+        cap,
+        votes,
+    };
+    let Ok(bytes) = found.to_vec(alloc) else {
+        return MEMORY;
+    };
+    let (node, kept) = match Embedded::recover(alloc, config, own, bytes) {
+        Ok(made) => made,
+        Err(refused) => {
+            *line = line_of_unrecovered(&refused, *line);
+            return status_of_unrecovered(&refused);
+        }
+    };
+    match Box::new(alloc, node) {
+        Ok(node) => {
+            *keep = kept;
             *out = Place::of(node);
             OK
         }

@@ -2,9 +2,12 @@
 ghost use Rattle.std.specs.Prelude.{◌≡◌};
 ghost use Rattle.lattice_c.specs.Statuses.{status_of_line, status_of_replica, status_of_world, status_of_node};
 ghost use Rattle.lattice_c.specs.Statuses.{status_of_host, status_of_number, status_of_shelf, status_of_own};
+ghost use Rattle.lattice_c.specs.Statuses.{status_of_line_refused, status_of_unplayed, status_of_unrecovered};
+ghost use Rattle.lattice_c.specs.Statuses.{line_of_unrecovered};
 
 use la_durable::NodeError;
-use la_embed::{HostError, NumberError};
+use la_embed::{HostError, NumberError, Unrecovered};
+use la_journal::Unplayed;
 use la_node::WorldError;
 use la_object::ShelfError;
 use la_own::OwnError;
@@ -66,6 +69,14 @@ pub const BAD_KIND: u8 = 25;
 pub const STALE: u8 = 26;
 
 pub const AHEAD: u8 = 27;
+
+pub const UNKEPT: u8 = 28;
+
+pub const NO_JOURNAL: u8 = 29;
+
+pub const OTHER_JOURNAL: u8 = 30;
+
+pub const DAMAGED: u8 = 31;
 
 pub fn status_of_line(fault: LineFault) -> u8
     ensures { result ≡ status_of_line fault }
@@ -159,5 +170,61 @@ pub fn status_of_own(refused: OwnError) -> u8
     match refused {
         OwnError::TooLong => TOO_LARGE,
         OwnError::Memory => MEMORY,
+    }
+}
+
+// A journal's line is refused for want of memory, or it is damaged.
+fn status_of_line_refused(refused: NodeError) -> u8
+    ensures { result ≡ status_of_line_refused refused }
+{
+    match refused {
+        NodeError::Memory => MEMORY,
+        _ => DAMAGED,
+    }
+}
+
+fn status_of_unplayed(why: &Unplayed<NodeError>) -> u8
+    ensures { result ≡ status_of_unplayed why.now }
+{
+    match why {
+        Unplayed::Memory | Unplayed::Disk => MEMORY,
+        Unplayed::NoHead => NO_JOURNAL,
+        Unplayed::OtherHead(_) => OTHER_JOURNAL,
+        Unplayed::Refused(_, refused) => status_of_line_refused(*refused),
+        Unplayed::NoState(_)
+        | Unplayed::NoCall(_)
+        | Unplayed::Misplaced(_)
+        | Unplayed::Damaged(_) => DAMAGED,
+    }
+}
+
+pub fn status_of_unrecovered(refused: &Unrecovered) -> u8
+    ensures { result ≡ status_of_unrecovered refused.now }
+{
+    match refused {
+        Unrecovered::Group(refused) => status_of_world(*refused),
+        Unrecovered::Journal(why) => status_of_unplayed(why),
+        Unrecovered::Memory => MEMORY,
+    }
+}
+
+/// The line of a journal at which it is damaged, or what was told before.
+pub fn line_of_unrecovered(refused: &Unrecovered, before: usize) -> usize
+    ensures { result ≡ line_of_unrecovered refused.now before }
+{
+    match refused {
+        Unrecovered::Journal(Unplayed::Refused(_, NodeError::Memory)) => before,
+        Unrecovered::Journal(
+            Unplayed::NoState(line)
+            | Unplayed::NoCall(line)
+            | Unplayed::Misplaced(line)
+            | Unplayed::Refused(line, _)
+            | Unplayed::Damaged(line),
+        ) => *line,
+        Unrecovered::Journal(
+            Unplayed::Memory | Unplayed::Disk | Unplayed::NoHead | Unplayed::OtherHead(_),
+        )
+        | Unrecovered::Group(_)
+        | Unrecovered::Memory => before,
     }
 }

@@ -9,7 +9,8 @@ ghost use Rattle.lattice_c.specs.Calls.{SubmitsFor, SubmitsOwn, Removes, Propose
 
 use crate::handle::Handle;
 use crate::status::{
-    BAD_KIND, NONE, OK, TOO_LARGE, status_of_node, status_of_number, status_of_own, status_of_shelf,
+    BAD_KIND, NONE, OK, TOO_LARGE, UNKEPT, status_of_node, status_of_number, status_of_own,
+    status_of_shelf,
 };
 use la_object::ShelfError;
 use la_own::own_op;
@@ -29,7 +30,8 @@ fn submit(handle: &mut Handle, object: u16, op: Op, number: &mut u32) -> u8
     }
 }
 
-/// Submits an addition to a counter, and answers the update's number. What is to be sent of it waits then.
+/// Submits an addition to a counter, and answers the update's number. What is to be sent of it waits then. A node with a
+/// journal may have lost it after a crash, until its record is on the disk; so it is of all that it takes.
 ///
 /// `FULL` comes where the node has submitted its cap, and else `MEMORY` or `BALLOTS_SPENT`; so it is of each call that
 /// submits.
@@ -198,7 +200,8 @@ pub extern "C" fn lattice_propose(handle: &mut Handle, commit: u8, value: u64) -
 
 /// What the node returned from an adopt-commit object: the value, and whether it is committed (1) or adopted (0).
 ///
-/// `NONE` comes where it has returned nothing yet, or there is no such object.
+/// `NONE` comes where it has returned nothing yet, or there is no such object; `UNKEPT` where what the node took is not on
+/// the disk yet.
 #[unsafe(no_mangle)]
 pub extern "C" fn lattice_outcome(
     handle: &mut Handle,
@@ -209,7 +212,11 @@ pub extern "C" fn lattice_outcome(
     ensures told { TellsOutcome handle.old.host.host commit result value.new committed.new }
     ensures same { handle.new.host.host ≡ handle.old.host.host }
 {
-    match handle.inner().host.outcome(commit) {
+    let host = &handle.inner().host;
+    if !host.is_kept() {
+        return UNKEPT;
+    }
+    match host.outcome(commit) {
         Some(outcome) => {
             *value = outcome.value();
             *committed = u8::from(outcome.is_commit());

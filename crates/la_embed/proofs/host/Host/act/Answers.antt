@@ -1,24 +1,30 @@
 use Rattle.std.proofs.Common.{◌∙◌, Some, ap, sym, subst}
 use Rattle.la_node.specs.Steps.{Given, given_of}
 use Rattle.la_wire.specs.Calls.{called}
-use Rattle.la_durable.specs.Nodes.{kept_by}
+use Rattle.la_embed.specs.Journals.{JournalsCall}
+use Rattle.la_embed.specs.Keepers.{state_kept, journal_in}
 use Rattle.la_embed.specs.Hosts.{HostState, IsHostStep, IsPosted}
 use Rattle.la_embed.proofs.Growing.{acts_grow}
 use Rattle.la_embed.proofs.host.Host.act.Goals as goal
 
 pub invariant_of-self-2 : goal.invariant_of-self-2
-invariant_of-self-2 g c u has =
-    acts_grow (kept_by c.self.inside.machine) (called c.args.call.now)
-    (given_of c.in_ok-done.field-0, kept_by c.act.new.self) c.in_ok-done.ensures.ok u (c.self.invariant u has)
+invariant_of-self-2 g c = record {
+  absorbed =
+      λ u has.
+      acts_grow (state_kept c.self.inside.keeper) (called c.args.call)
+      (given_of c.in_ok-done.field-0, state_kept c.act.new.self)
+      c.in_ok-done.ensures.acts u (c.self.invariant.absorbed u has);
+  journaled = c.act.ensures.journaled;
+}
 
 pub returns-clause-step : goal.returns-clause-step
 returns-clause-step g c =
-    subst (λ (h : HostState). (x : Given) × IsHostStep h c.args.links (called c.args.call.now) x c.post.new.self)
+    subst (λ (h : HostState). (x : Given) × IsHostStep h c.args.links (called c.args.call) x c.post.new.self)
     c.self.view_is (
       given_of c.in_ok-done.field-0,
       record {
         does =
-            c.in_ok-done.ensures.ok
+            c.in_ok-done.ensures.acts
             ∙ ap (λ (h : HostState). Some (given_of c.in_ok-done.field-0, h.kept)) (sym c.post.ensures.same);
         mail =
             let sent = c.in_ok-done.field-0.done.mail in
@@ -27,5 +33,9 @@ returns-clause-step g c =
         links = ap (λ (h : HostState). h.links) c.post.ensures.same;
         shelf = ap (λ (h : HostState). h.shelf) c.post.ensures.same;
         handed = ap (λ (h : HostState). h.handed) c.post.ensures.same;
+        journal =
+            subst (λ (h : HostState). JournalsCall (state_kept c.self.inside.keeper) (called c.args.call)
+            (given_of c.in_ok-done.field-0) h.kept (journal_in c.self.inside.keeper) h.journal)
+            (sym c.post.ensures.same) c.in_ok-done.ensures.line;
       },
     )

@@ -44,7 +44,7 @@ returns-in-Ok-clause-ok g c =
       c.in-Ok.ensures.durable.0,
       (takes_lines g.D.Disk.seen g.D.Disk.may_leave old (c.requires is_open) c.args.self.now.durable.last linked text
           group c.keep.new.self.disk c.in-Ok.ensures.written).lines_are,
-      c.clear.ensures.items,
+      c.clear-in-Ok.ensures.items,
     )
 
 pub returns-in-Ok-clause-open : goal.returns-in-Ok-clause-open

@@ -1,0 +1,22 @@
+use mir.Raw.{raw}
+use denote.Memory.{lone}
+use denote.Struct.Struct.{exits_of}
+use denote.Struct.Owning.{shape, fields, to}
+use denote.Param.Send.{IsSend, AllSend, owning_send, struct_send, sendable}
+use Rattle.std.proofs.Crossing as heap
+use Rattle.std_alloc.proofs.SendSync.{quiet, lies}
+use Rattle.std_heap.proofs.Global.TheSendSync as handle
+use Rattle.la_embed.specs.contracts.embedded.Embedded as Host
+use Rattle.la_embed.proofs.lemmas.Crossing.{embedded_send}
+use Rattle.lattice_c.specs.contracts.handle.Handle.{the_row, the_type}
+
+-- as a box may that owns the same
+pub send : IsSend the_row
+send =
+    let all : AllSend (fields the_type) = (search sendable, (handle.the_field_send, tt)) in
+    owning_send the_type all
+    (λ d. (
+      lies Host.the_row embedded_send d.at d.host,
+      heap.frees.frees d.alloc (raw (lone Host.the_row.mir)) d.at,
+    ))
+    (λ k. quiet (to the_type) (exits_of k (fields the_type)) ((struct_send (shape the_type) all).leaving k))
