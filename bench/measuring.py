@@ -7,6 +7,7 @@ import shutil
 import statistics
 import subprocess
 import sys
+import time
 from collections.abc import Iterable, Sequence
 from pathlib import Path
 from subprocess import PIPE, Popen
@@ -14,6 +15,7 @@ from typing import NamedTuple
 
 BENCH = Path(__file__).resolve().parent
 TOP = BENCH.parent
+SYNCS = 300
 MEBIBYTE = 2**20
 # Where Debian's packages put the sources of crates.
 REGISTRY = Path("/usr/share/cargo/registry")
@@ -26,9 +28,11 @@ crdts = {{ version = "7.2.0", default-features = false, features = ["num"] }}
 """
 OBJECTS = ("la_set", "la_shelf", "la_object")
 REPLICA = (*OBJECTS, "la_acceptor", "la_proposer", "la_commit", "la_replica", "la_node", "la_world")
+EMBED = ("la_own", "la_orset", "la_script", "la_io", "la_journal", "la_wire", "la_durable", "la_embed")
 # The Rattle programs, and which of our crates each stands on.
 PROGRAMS = {
     "deltas": REPLICA,
+    "embed": (*REPLICA, *EMBED),
     "growth": (*REPLICA, "la_script"),
     "questions": REPLICA,
     "sets": (*OBJECTS, "la_orset"),
@@ -54,11 +58,12 @@ def build_plain(folder: Path, name: str, *flags: str) -> Path:
     return program
 
 
-def build_with_crdts(folder: Path, name: str) -> Path:
-    """Builds the program of this name over the crate crdts, by the sources of Debian's package librust-crdts-dev."""
+def build_with_crdts(folder: Path, name: str, more: str = "") -> Path:
+    """Builds the program of this name over the crate crdts, by the sources of Debian's package librust-crdts-dev, and
+    over more, by lines of a manifest."""
     crate = folder / "beside" / name
     (crate / "src").mkdir(parents=True)
-    (crate / "Cargo.toml").write_text(MANIFEST.format(name=name))
+    (crate / "Cargo.toml").write_text(MANIFEST.format(name=name) + more)
     shutil.copy(BENCH / f"{name}.rs", crate / "src" / "main.rs")
     sources = ['source.crates-io.replace-with="debian"', f'source.debian.directory="{REGISTRY}"']
     words = ["cargo", "build", "-q", "--release", "--offline"]
@@ -73,8 +78,8 @@ def make_workspace(folder: Path, names: Sequence[str]) -> None:
     ours = {library for name in names for library in PROGRAMS[name]}
     lines = (TOP / "crates.txt").read_text().splitlines()
     lines = [line for line in lines if line.split(":")[0].split(" ")[0] in ours]
-    for crate in ours:
-        shutil.copytree(TOP / "crates" / crate, folder / "crates" / crate)
+    for library in ours:
+        shutil.copytree(TOP / "crates" / library, folder / "crates" / library)
     for name in names:
         crate = folder / "crates" / name
         (crate / "src").mkdir(parents=True)
@@ -116,10 +121,11 @@ class Runner:
         """Stops where two programs' reports of a script differ, which are read as they come."""
         with contextlib.ExitStack() as opened:
             files = [opened.enter_context(open(script, "rb")) for _ in programs]
-            calls = [([program, "play"], file) for program, file in zip(programs, files)]
-            played = [opened.enter_context(Popen(words, stdin=file, stdout=PIPE)) for words, file in calls]
+            calls = [(str(program), file) for program, file in zip(programs, files)]
+            played = [opened.enter_context(Popen([it, "play"], stdin=file, stdout=PIPE)) for it, file in calls]
+            outputs = [it.stdout for it in played if it.stdout]
             while True:
-                chunks = [it.stdout.read(MEBIBYTE) for it in played]
+                chunks = [it.read(MEBIBYTE) for it in outputs]
                 if chunks[0] != chunks[1]:
                     sys.exit(f"the reports of {script.name} differ")
                 if not chunks[0]:
@@ -133,9 +139,22 @@ class Runner:
         return [median(taken) for taken in zip(*turns)]
 
 
+def sync_seconds(folder: Path) -> float:
+    """The median of an append of a line to a file there, with its fdatasync."""
+    spent = []
+    with (folder / "syncs").open("wb", buffering=0) as file:
+        for _ in range(SYNCS):
+            began = time.perf_counter()
+            file.write(b"submit 0 1 inc 1\n")
+            os.fdatasync(file.fileno())
+            spent.append(time.perf_counter() - began)
+    return statistics.median(spent)
+
+
 def median(costs: Iterable[Cost]) -> Cost:
     """The median of the seconds, and that of the memory."""
-    return Cost(*map(statistics.median, zip(*costs)))
+    seconds, memory = zip(*costs)
+    return Cost(statistics.median(seconds), statistics.median(memory))
 
 
 def generate(counts: Path, folder: Path, schedule: str, size: int) -> Path:

@@ -4,8 +4,8 @@ A log's entry is a word, a node's number and a line: `start`, a life begins, whe
 journal's groups; `given`, a line on its standard input; `out`, one that it printed; `said`, one on standard error;
 `killed`; `power`, what its loss left of the journal; `flipped`, what a start came to where a bit of it had flipped;
 `ended`, with the status; `told`, a line that the cart program beside it was told; `cart`, one that this was asked, and
-behind a `: ` what it answered; and `last`, from which on nothing is submitted. The first word of a fault is the rule
-that is broken.
+behind a `: ` what it answered; `away`, from here on nothing comes to a node or of it, until `back`; and `last`, from
+which on nothing is submitted. The first word of a fault is the rule that is broken.
 """
 from __future__ import annotations
 
@@ -14,7 +14,7 @@ from collections import Counter, defaultdict, deque
 from dataclasses import dataclass, field
 
 from . import carts
-from .hearing import Hearing, Told, larger, smaller, within
+from .hearing import Far, Hearing, is_idle, larger, smaller, within
 from .lines import (
     FAULTY, FORMS, NOTHING, Counts, Malformed, Message, Standing, apart, read_counts, read_message, read_note,
     read_standing,
@@ -91,6 +91,10 @@ class Seen:
         self.sent.clear()
         self.refused, self.journal = 0, (0, 0)
 
+    def far(self) -> Far | None:
+        """How far it is, where no kill may have swallowed more."""
+        return Far(self.has, self.view) if self.exact and self.firm else None
+
     def least(self) -> int:
         """How many submissions it has taken at least."""
         return max([*self.submitted, self.counted])
@@ -148,7 +152,9 @@ class Checker:
         self.last = True
 
     def take_power(self, _own: int, _line: str) -> None:
-        """What a node has to keep is the same after it."""
+        """What a node has to keep is the same after it, and what it has to say where it is away."""
+
+    take_away = take_back = take_power
 
     def take_flipped(self, own: int, line: str) -> None:
         if not TOLD.fullmatch(line):
@@ -203,15 +209,15 @@ class Checker:
         except Malformed:
             return
         node.came += [(node.line, it.verb)] if it else []
-        if it and it.group == self.group.replicas and it.sender < it.group:
-            node.hearing.given(node.line, it)
-            if it.verb == "tell" and it.to == own:
-                node.hearing.told.append(Told(node.line, it, within(it.counts, node.view)))
+        if it and it.group == self.group.replicas:
+            node.hearing.given(node.line, it, own, Far(node.has, node.view), node.far())
 
     def handled(self, own: int, line: int) -> None:
         """A node has handled all its lines up to this one."""
-        for at in self.nodes[own].hearing.handled(line):
-            self.fault("known", own, f"no answer to the tell of line {at}")
+        node = self.nodes[own]
+        if it := node.hearing.handled(line, node.far()):
+            rule = "known" if is_idle(it.message, it.most or it.least) else "replies"
+            self.fault(rule, own, f"no answer to line {it.line}, {it.message}")
 
     def take_killed(self, own: int, _line: str) -> None:
         node = self.nodes[own]
@@ -444,9 +450,10 @@ class Checker:
     def are_known(self, own: int, it: Standing) -> bool:
         """Whether of all others just so much is known as the node was told."""
         hearing, others = self.nodes[own].hearing, [peer for peer in range(self.group.replicas) if peer != own]
+        must, may = hearing.must.far, hearing.may.far
         return list(it.peers) == others and all(
-            within(hearing.must[peer].has, has) and within(has, hearing.may[peer].has)
-            and within(hearing.must[peer].view, view) and within(view, hearing.may[peer].view)
+            within(must[peer].has, has) and within(has, may[peer].has)
+            and within(must[peer].view, view) and within(view, may[peer].view)
             for peer, (has, view) in it.peers.items()
         )
 
@@ -464,6 +471,7 @@ class Checker:
             self.fault("majority", own, f"instance {instance}, ballot {ballot}: by {sorted(yeses)} alone")
         if instance == "0":
             self.nodes[own].untold = set(range(self.group.replicas)) - {own}
+            self.nodes[own].hearing.learnt(own, int(ballot), self.nodes[own].far())
 
     def learn(self, own: int, instance: int, ballot: int, counts: Counts) -> None:
         """Notes a set that this replica has learnt, as it says itself or by a tell."""
@@ -501,18 +509,19 @@ class Checker:
         if wrong or any(it.counts[it.group :]):
             raise Malformed("not a message of this node")
         self.nodes[own].sent[it.verb] += 1
+        before = self.nodes[own].far()
         self.progress(own, it.has, it.view, it.verb in ("yes", "no") and it.instance == 0)
         for update in it.updates:
             self.content(it.instance, update)
         if it.verb == "known":
-            if not self.nodes[own].hearing.answered(it.to, it.view):
-                self.fault("known", own, f"an answer to no tell of {it.to}")
+            if not self.nodes[own].hearing.answered(it.to, Far(it.has, it.view)):
+                self.fault("known", own, f"an answer to no message of {it.to}")
         elif it.verb == "tell":
             self.tell(own, it)
         elif it.verb == "offer":
             self.offer(own, it)
         else:
-            self.reply(own, it)
+            self.reply(own, it, before)
 
     def progress(self, own: int, has: Counts, view: Counts, is_reply: bool = False) -> None:
         """How far a node says that it is: it never shrinks, and is what it has said of its steps before."""
@@ -525,34 +534,43 @@ class Checker:
         node.firm = node.exact = True
 
     def tell(self, own: int, it: Message) -> None:
-        """A tell goes over what is known of its receiver's view, and not once more where that has it all."""
+        """A tell goes over what its receiver's view is believed to have, and not once more where that is known to have
+        it all."""
         self.learn(own, 0, it.ballot, it.counts)
         node = self.nodes[own]
-        must, may = node.hearing.must[it.to].view, node.hearing.may[it.to].view
-        if not within(smaller(must, it.counts), it.base) or not within(it.base, may):
-            self.fault("base", own, f"a tell to {it.to} over {it.base}, of which is known {must} to {may}")
+        far = node.hearing.beliefs(it.to, Far(it.has, it.view), it.to in node.untold)
+        beliefs = [(one.view, other.view) for one, other in far]
+        if not any(within(smaller(must, it.counts), it.base) and within(it.base, may) for must, may in beliefs):
+            self.fault("base", own, f"a tell to {it.to} over {it.base}, of which is believed {beliefs}")
+        known = node.hearing.must.far[it.to].view
         if it.to in node.untold:
             node.untold.remove(it.to)
-        elif within(it.counts, must):
-            self.fault("again", own, f"a tell of {it.counts} to {it.to}, whose view has {must}")
+        elif within(it.counts, known):
+            self.fault("again", own, f"a tell of {it.counts} to {it.to}, whose view has {known}")
 
     def offer(self, own: int, it: Message) -> None:
-        """An offer goes over what its receiver has said that it has accepted, in instance 0 on whatever line."""
+        """An offer goes over what its receiver has said that it has accepted, in instance 0 on whatever line; or there
+        over what that is believed to have."""
         before = self.offered.setdefault((own, it.instance, it.ballot), it.counts)
         if before != it.counts:
             self.fault("ballots", own, f"instance {it.instance}, ballot {it.ballot}: {before} and {it.counts}")
         hearing = self.nodes[own].hearing
-        must = hearing.must[it.to].has if it.instance == 0 else NOTHING
-        may = hearing.ever[it.to].has if it.instance == 0 else self.accepted.get((it.to, it.instance), NOTHING)
-        if not within(smaller(must, it.counts), it.base) or not within(it.base, may):
+        beliefs = [(NOTHING, self.accepted.get((it.to, it.instance), NOTHING))]
+        if it.instance == 0:
+            said = hearing.ever[it.to].has
+            far = hearing.beliefs(it.to, Far(it.has, it.view))
+            beliefs = [(one.has, larger(said, other.has)) for one, other in far]
+        if not any(within(smaller(must, it.counts), it.base) and within(it.base, may) for must, may in beliefs):
             what = f"an offer in instance {it.instance} to {it.to} over {it.base}"
-            self.fault("base", own, f"{what}, of which is known {must} to {may}")
+            self.fault("base", own, f"{what}, of which is believed {beliefs}")
 
-    def reply(self, own: int, it: Message) -> None:
-        """An acceptor's reply; what it has accepted only grows."""
+    def reply(self, own: int, it: Message, then: Far | None) -> None:
+        """An acceptor's reply, of a node that was so far then; what it has accepted only grows."""
         offered = self.offered.get((it.to, it.instance, it.ballot))
         if offered is None:
             return self.fault("replies", own, f"to no offer: {it}")
+        if not self.nodes[own].hearing.replied(it, then, Far(it.has, it.view)):
+            self.fault("replies", own, f"to no offer that it was given over what it had: {it}")
         before = self.accepted.get((own, it.instance), NOTHING)
         now = offered if it.verb == "yes" else it.counts
         if not within(before, now):

@@ -10,12 +10,15 @@ from . import carts
 from .check import Checker, Entry, Group
 from .clients import Client
 from .disks import flipped
+from .hearing import PATIENCE
 from .lines import FAULTY
 from .nodes import Node, Stuck
 from .objects import OWN, live_of
 
 # A run that takes longer, or so many rounds of ticks at its end, hangs.
 SECONDS, ROUNDS = 60, 400
+# How many lines more than those that make one silent come while it is away.
+AWAY = 24
 LOST = REPEATED = 0.1
 # Of the kills, how many are losses of power, and behind how many a bit flips.
 POWER, FLIPPED = 0.35, 0.2
@@ -31,6 +34,10 @@ def drawn_group(draw: random.Random, nodes: int | None) -> Group:
     return Group(replicas, draw.choice((0, 0, 1, 2)), draw.choice((10, 1_000_000, 1_000_000)), votes)
 
 
+def sender(message: str) -> int:
+    return int(message.split(" ")[2])
+
+
 def receiver(message: str) -> int:
     return int(message.split(" ")[3])
 
@@ -44,7 +51,7 @@ class Run:
     ) -> None:
         self.draw = random.Random(seed)
         self.group = drawn_group(self.draw, nodes)
-        self.compact = seed % 2
+        self.compact, self.has_away = seed % 2, seed % 4 > 1 and self.group.replicas > 1
         self.checker, self.log = Checker(self.group), []
         self.pool: list[str] = []
         self.figures: Counter[str] = Counter()
@@ -104,9 +111,9 @@ class Run:
         if word == "own":
             return f"{number} own {self.drawn_bytes()}"
         if word == "remove":
-            ids = [f"{own}.{at}" for own, node in enumerate(self.checker.nodes) for at in [*node.submitted, 1]]
-            tags = self.draw.sample(ids, min(len(ids), self.draw.randint(0, 4)))
-            return " ".join([str(number), word, *sorted(set(tags))])
+            ids = [(own, at) for own, node in enumerate(self.checker.nodes) for at in [*node.submitted, 1]]
+            tags = sorted({*self.draw.sample(ids, min(len(ids), self.draw.randint(0, 4)))})
+            return " ".join([str(number), word, *(f"{own}.{at}" for own, at in tags)])
         largest = 2**32 - 1 if word in ("inc", "dec") else 2**64 - 1
         often = self.draw.choice((1, 2)) if word == "put" else self.draw.randint(0, 5)
         value = often if self.draw.random() < 0.95 else largest
@@ -252,6 +259,42 @@ class Run:
             elif self.draw.random() < 0.5:
                 node.start()
 
+    def away(self) -> None:
+        """One is down, or all that comes of it and for it is lost, while the others go on until it is silent for each,
+        and for some time."""
+        gone = self.draw.choice(self.nodes)
+        others = [it for it in self.nodes if it is not gone]
+        self.note(("away", gone.own, ""))
+        if gone.process and self.draw.random() < 0.5:
+            self.cut_off(gone, [], "", 0)
+        while not all(self.misses(it.own, gone.own) for it in others):
+            self.go_on(self.draw.choice(self.nodes if gone.process else others), gone.own)
+            self.in_time()
+        self.note(("back", gone.own, ""))
+        if not gone.process:
+            gone.start()
+
+    def misses(self, own: int, gone: int) -> bool:
+        """Whether a node has heard enough lines without one that is away, and some more."""
+        known = self.checker.nodes[own].hearing.must
+        return known.heard - known.last[gone] >= PATIENCE + AWAY
+
+    def go_on(self, node: Node, gone: int) -> None:
+        """A node submits, ticks, and is given what is for it, and some of what is for others; or it is started. To
+        one that is away nothing comes, and what it sends is lost."""
+        if not node.process:
+            return node.start()
+        lines = [self.drawn_line(node.own, "submit")] if self.draw.random() < 0.2 else []
+        lines += ["tick"] if self.draw.random() < 0.3 else []
+        if node.own != gone:
+            others = [it for it in self.pool if receiver(it) != node.own]
+            lines += self.draw.sample(others, min(len(others), self.draw.randint(0, 4)))
+            lines += self.taken_mail(node.own, self.draw.choice((1, 2, 4)))
+        self.draw.shuffle(lines)
+        self.post(node.give(lines))
+        late = [it for it in self.pool if receiver(it) == gone][:-4]
+        self.pool = [it for it in self.pool if sender(it) != gone and it not in late]
+
     def settle(self) -> None:
         """No more kills: all learn all. Each node says how it stands, and submits once more, so that it shows its
         view."""
@@ -343,6 +386,12 @@ class Run:
     def play(self) -> None:
         for node in self.nodes:
             node.start()
+        half = len(self.work) // 2 if self.has_away else 0
+        while len(self.work) > half:
+            self.step()
+            self.in_time()
+        if self.has_away:
+            self.away()
         while self.work:
             self.step()
             self.in_time()

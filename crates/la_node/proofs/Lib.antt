@@ -3,6 +3,7 @@ pub mod Deciding
 mod Refusing
 mod Growing
 mod Kept
+mod Looking
 mod SubmittingOnce
 mod Participants
 mod Voters

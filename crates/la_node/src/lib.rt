@@ -19,6 +19,6 @@ mod resumed;
 pub use config::Config;
 pub use done::{Done, Voted};
 pub use error::WorldError;
-pub use link::{Letter, Links, Standing};
+pub use link::{Letter, Links, PATIENCE, Standing};
 pub use node::{Node, Received};
 pub use participant::outcome_by;

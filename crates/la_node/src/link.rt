@@ -2,13 +2,14 @@
 ghost use Rattle.std.specs.Prelude.{◌≡◌, OnOk, IfOk};
 ghost use Rattle.la_replica.specs.Parcels.{IsTellWithinLimit};
 ghost use Rattle.la_replica.specs.Rebased.{IsOfferOver};
-ghost use Rattle.la_node.specs.Links.{no_links, known_of, known_with, covers, is_owed, letter_of, letters_of};
-ghost use Rattle.la_node.specs.Links.{told_on, AreOffersOver};
+ghost use Rattle.std.specs.List.{list_all};
+ghost use Rattle.la_node.specs.Links.{no_links, known_of, known_with, is_silent, believed_of, covers, is_owed};
+ghost use Rattle.la_node.specs.Links.{letter_of, letters_of, told_on, AreOffersOver, is_counted, tells_nothing};
 
 use crate::Node;
 use la_object::Replicated;
-use la_replica::{Body, Mail, Message, Parcel, Progress};
-use la_set::Counts;
+use la_replica::{Body, Content, Mail, Message, Parcel, Progress};
+use la_set::{Counts, Delta};
 use smallvec::SmallVec;
 use std::alloc::{AllocError, Global};
 
@@ -45,12 +46,50 @@ fn covers(counts: Counts, others: Counts) -> bool
     has(0) && has(1) && has(2) && has(3) && has(4) && has(5) && has(6) && has(7)
 }
 
+/// How many letters may come of others, and none of a replica, until it is believed to be away.
+pub const PATIENCE: u64 = 64;
+
+// Whether no update beyond a delta's base has a number over these counts.
+fn are_counted(counts: Counts, told: &Delta) -> bool
+    ensures { result ≡ list_all (is_counted counts) told.now.more }
+{
+    let mut all = true;
+    for place in 0..told.len() {
+        let Some(update) = told.at(place) else {
+            unreachable!()
+        };
+        all = all && update.id.number <= counts.of(update.id.replica);
+    }
+    all
+}
+
+// Whether who is this far has not what a set is told over, or has all of a told set, by counts.
+pub(crate) fn tells_nothing(here: Progress, content: &Content) -> bool
+    ensures { result ≡ tells_nothing here content.now }
+{
+    match content {
+        Content::Tell(told) => !covers(here.view, told.base()) || are_counted(here.view, told),
+        Content::Offer(offered) => !covers(here.accepted, offered.base()),
+        Content::Yes | Content::No(_) => false,
+    }
+}
+
 /// How far each replica of a group is at least, by the letters that came of it. It lives in memory alone: a
 /// node that is started again knows nothing, and its first letter to each may tell a whole set. Whatever is
-/// believed changes only what a letter costs: where its receiver has less, it is refused with `NoBase`.
+/// believed changes only what a letter costs: where its receiver has less, it answers how far it is
+/// ([`Node::wants_standing`]).
+///
+/// Of a replica that was silent for [`PATIENCE`] letters it is believed that it gets all that is sent. So
+/// letters to one that is away tell what is new, and not all that it lacks; once it is back, it answers one
+/// of them, and the next tells that.
 #[derive(Clone, Copy)]
 pub struct Links {
     of: [Progress; 8],
+    // How far this replica was when the last letter came.
+    own: Progress,
+    // How many letters came, and how many had come with the last one of each replica.
+    heard: u64,
+    last: [u64; 8],
 }
 
 impl Links {
@@ -60,6 +99,9 @@ impl Links {
     {
         Links {
             of: [Progress::none(); 8],
+            own: Progress::none(),
+            heard: 0,
+            last: [0; 8],
         }
     }
 
@@ -74,13 +116,40 @@ impl Links {
     }
 
     /// Takes note of how far a replica is, as a letter of it says, whoever that is for: of each number the
-    /// larger stays. That of a replica from 8 on is passed over.
-    pub fn hear(&mut self, replica: u8, progress: Progress)
-        ensures { self.new ≡ known_with self.old replica progress }
+    /// larger stays. That of a replica from 8 on is passed over. The third is how far this one is itself.
+    pub fn hear(&mut self, replica: u8, progress: Progress, own: Progress)
+        ensures { self.new ≡ known_with self.old own replica progress }
     {
         let from = replica as usize;
+        self.own = own;
+        self.heard = self.heard.saturating_add(1);
         if from < 8 {
             self.of[from] = self.of[from].max(progress);
+            self.last[from] = self.heard;
+        }
+    }
+
+    // Whether so many letters came since one of this replica did that it seems to be away.
+    fn is_silent(&self, replica: u8) -> bool
+        ensures { result ≡ is_silent self.now replica }
+    {
+        let last = match self.last.get(replica as usize) {
+            Some(last) => *last,
+            None => 0,
+        };
+        self.heard.saturating_sub(last) >= PATIENCE
+    }
+
+    /// How far a replica is believed to be, over which letters to it are told: as far as is known, and where it
+    /// is silent also as far as this one was when the last letter came.
+    pub fn believed(&self, replica: u8) -> Progress
+        ensures { result ≡ believed_of self.now replica }
+    {
+        let known = self.known(replica);
+        if self.is_silent(replica) {
+            known.max(self.own)
+        } else {
+            known
         }
     }
 
@@ -95,8 +164,9 @@ impl Links {
         }
     }
 
-    /// A message of a node as a letter, over what is known of its receiver: an offer in instance 0 over what
-    /// that has accepted ([`Message::further`]), a told set over what its view has ([`Parcel::new`]).
+    /// A message of a node as a letter, over what its receiver is [believed](Links::believed) to have: an offer
+    /// in instance 0 over what that has accepted ([`Message::further`]), a told set over what its view has
+    /// ([`Parcel::new`]).
     ///
     /// It is refused for want of memory alone, and then the message is dropped. The cost is constant: sets
     /// are shared.
@@ -109,11 +179,11 @@ impl Links {
         ensures over { IfOk result (λ _. IsOfferOver (told_on self.now message).body) }
         ensures limit { IfOk result (λ _. IsTellWithinLimit message.body) }
     {
-        let known = self.known(message.to);
+        let believed = self.believed(message.to);
         Ok(Letter {
             replicas: node.replicas(),
             progress: node.progress(),
-            parcel: Parcel::new(message.further(known.accepted), known.view)?,
+            parcel: Parcel::new(message.further(believed.accepted), believed.view)?,
         })
     }
 

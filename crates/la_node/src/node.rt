@@ -21,7 +21,7 @@ ghost use Rattle.la_replica.specs.Refusals.{HasRoom, SubmittingSpares};
 ghost use Rattle.la_replica.specs.Again.{again};
 ghost use Rattle.la_replica.specs.Progress.{progress_of};
 ghost use Rattle.la_node.specs.Nodes.{returned_by};
-ghost use Rattle.la_node.specs.Links.{standing_of};
+ghost use Rattle.la_node.specs.Links.{standing_of, wants_standing};
 ghost use Rattle.la_node.specs.Preparing.{FitsHere};
 ghost use Rattle.la_node.specs.Calls as call;
 ghost use Rattle.la_node.specs.Steps.{node_step, given_out, given_of, given_due};
@@ -30,6 +30,7 @@ ghost use Rattle.la_node.specs.Nodes.{followed, with_shelf, MayStart, node_at_st
 ghost use Rattle.la_node.specs.Nodes.{IsStartRefusal, IsProposeRefusal, IsObservedRefusal};
 ghost use Rattle.la_node.specs.Nodes.{outcome_due, OutcomesStayIn, ReturnsIn, LeftUntoldNode};
 
+use crate::link::tells_nothing;
 use crate::participant::{for_memory, outcome_by, returned, take_prepared};
 use crate::resumed::are_participants;
 use crate::{Config, Done, Standing, WorldError};
@@ -178,6 +179,16 @@ impl<B: Replicated> Node<B> {
             to,
             progress: self.progress(),
         }
+    }
+
+    /// Whether a parcel is to be answered by [how far this node is](Node::standing), and not received: one of
+    /// instance 0 that would be refused with `NoBase`, by the base of its offer or told set, or tells a set of
+    /// which the view has all, by counts. Then its sender tells what is lacking, or tells no more. The cost is
+    /// that of a look at each update of a told set.
+    pub fn wants_standing(&self, parcel: &Parcel) -> bool
+        ensures { result ≡ wants_standing self.now.replica parcel.now }
+    {
+        parcel.instance == 0 && tells_nothing(self.progress(), &parcel.content)
     }
 
     /// What it answers questions from.

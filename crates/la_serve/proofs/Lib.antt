@@ -3,7 +3,6 @@ pub mod OptionLines
 pub mod VoteTexts
 pub mod OwnNumbers
 pub mod ObjectTexts
-pub mod Acting
 pub mod Turns
 pub mod TakenLines
 pub mod Fits

@@ -1,25 +1,22 @@
 -- A turn by what is said of its line.
-use Rattle.std.proofs.Common.{◌≡◌, ◌↔◌, IsTrue, ℕ, Bool, true, false, ◌&&◌, [], List, append-nil, filter, take}
-use Rattle.std.proofs.Common.{get_or, ◌+◌, slice_get, Some, None, Option, refl, sym, ap, subst, ◌∙◌, inl, inr, length}
+use Rattle.std.proofs.Common.{◌≡◌, ℕ, true, false, ◌&&◌, [], List, append-nil, filter, take}
+use Rattle.std.proofs.Common.{Some, None, Option, refl, sym, ap, subst, ◌∙◌, inl, inr, length}
 use Rattle.std.proofs.Common.{leb}
 use Rattle.std.proofs.Common.{◌==◌, ◌⊎◌, Result, OnOk, IfErr}
 use Rattle.std.proofs.lemmas.Bool.{false≢true, lt-leb}
-use Rattle.std.specs.List.{list_all}
 use Rattle.std.specs.Io.KnownBytes.{Appends}
 use Rattle.std.proofs.KnownBytes.{Appends-nil}
-use Rattle.std.specs.Cmp.{both_ways}
-use Rattle.std.proofs.lemmas.List.Folds.{list_all_more}
-use Rattle.std.proofs.lemmas.Option.{slice_get_within, get_or_from_slice_get}
 use Rattle.la_set.specs.declared.counts.Counts.{Counts}
 use Rattle.la_set.specs.declared.tags.TheConstants.{MAX_TAGS}
-use Rattle.la_set.specs.declared.update.Update.{Update}
 use Rattle.la_set.specs.declared.update.UpdateId.{UpdateId}
-use Rattle.la_set.specs.Histories.{Histories}
-use Rattle.la_set.specs.Counts.{counts_of, HasCounts}
 use Rattle.la_node.specs.declared.link.Standing.{Standing}
-use Rattle.la_node.specs.Accepting.{has_counts}
-use Rattle.la_node.proofs.lemmas.Tests.{decides-has_counts}
-use Rattle.la_node.specs.Links.{letters_of, is_owed}
+use Rattle.la_node.specs.declared.link.Letter.{Letter}
+use Rattle.la_node.specs.Links.{letters_of, is_owed, tells_nothing, wants_standing}
+use Rattle.la_replica.specs.declared.parcel.Content.{Content}
+use Rattle.la_replica.specs.declared.parcel.Content.TheVariants as content
+use Rattle.la_replica.specs.declared.progress.Progress.{Progress}
+use Rattle.la_replica.specs.Progress.{progress_of}
+use Rattle.la_replica.specs.ReplicaState.{ReplicaState}
 use Rattle.la_replica.specs.declared.message.Message as code
 use Rattle.la_replica.specs.Again.{again}
 use Rattle.la_replica.specs.Bases.{AreToldIn}
@@ -31,7 +28,8 @@ use Rattle.la_wire.specs.declared.questions.Take.{Take}
 use Rattle.la_wire.specs.Notes.{letters_text}
 use Rattle.la_wire.specs.Questions.{question_in, take_in}
 use Rattle.la_wire.specs.Calls.{WireCall, Submit, Decide, Ask, Tick, Receive, Known, called}
-use Rattle.la_wire.specs.Messages.{Tell}
+use Rattle.la_wire.specs.Messages.{said_content, letter_message}
+use Rattle.la_durable.specs.Nodes.{content_of}
 use Rattle.la_durable.specs.Inputs.{InputState}
 use Rattle.la_serve.specs.declared.asking.Asking.{Asking}
 use Rattle.la_serve.specs.declared.said.Said.{Said}
@@ -43,7 +41,7 @@ use Rattle.la_serve.specs.Heard.{HeardLine, bare, heard_name, heard_call, heard_
 use Rattle.la_serve.specs.Io.{Io}
 use Rattle.la_serve.specs.Turns.{Turn, ServerState, OneOf, IsAnsweredTurn, IsTurnHere, own_of}
 use Rattle.la_serve.specs.Turns.{only_writes, only_sends, only_says, IsRequestTurn, IsHeardTurn}
-use Rattle.la_serve.specs.Said.{said_text, is_reached, is_told_known, asks_of, may_be_taken}
+use Rattle.la_serve.specs.Said.{said_text, is_idle, asks_of, may_be_taken}
 use Rattle.la_serve.specs.Said.{IsSaidToAsk, IsSaidAgain, IsSaidHere, IsSaidToQuestion}
 use Rattle.la_serve.specs.Serving.{OfCall, OfHeard, OfQuestion, OfRequest, OfTake, IsStarvedLine}
 use Rattle.la_serve.specs.declared.error.NodeFault.{NodeFault}
@@ -349,21 +347,14 @@ module _ (k : ℕ) (line : List ℕ) (before after : Io) where
       subst (λ l. IsStarvedLine l k before after t) (ap (λ (h : HeardLine). h.line) is) hungry in
       requested None None none neither t (ap (λ (u : Turn). u.heard.line) now) (inr now)
 
--- ## Whether a told set is known
+-- ## Whether a letter is answered by how far the node is
 
-same_counts_test : (b : Bool) (s : Histories) (c : Counts) → (IsTrue b ↔ HasCounts s c) → b ≡ has_counts s c
-same_counts_test b s c is =
-    let test = decides-has_counts s c in
-    both_ways b (has_counts s c) (λ e. test.1 (is.0 e)) (λ e. is.1 (test.0 e))
+same_content : (here : Progress) (c : Content) → tells_nothing here c ≡ tells_nothing here (content_of (said_content c))
+same_content here (content.Offer d) = refl
+same_content here content.Yes = refl
+same_content here (content.No d) = refl
+same_content here (content.Tell d) = refl
 
-pub not_known : (b : Bool) (view : Histories) (base : Counts) (more : List Update) → (IsTrue b ↔ HasCounts view base)
-    → b ≡ false → b ≡ is_told_known view (Tell base more)
-not_known b view base more is lacks =
-    lacks ∙ ap (λ t. t && list_all (is_reached (counts_of view)) more) (sym lacks ∙ same_counts_test b view base is)
-
--- one more update
-pub one_more : (p : Update → Bool) (us : List Update) (k : ℕ) (u : Update) (before : Bool) → slice_get us k ≡ Some u
-    → before ≡ list_all p (take k us) → (before && p u) ≡ list_all p (take (k + 1) us)
-one_more p us k u before at is =
-    sym (list_all_more p us k u (slice_get_within us k u at)
-    ∙ ap (λ b. b && p (get_or us k u)) (sym is) ∙ ap (λ v. before && p v) (get_or_from_slice_get us k u u at))
+-- that is asked of what it says
+pub idle_as_said : (n : ReplicaState) (l : Letter) → wants_standing n l.parcel ≡ is_idle n (letter_message l)
+idle_as_said n l = ap (λ b. (l.parcel.instance == 0) && b) (same_content (progress_of n) l.parcel.content)

@@ -1,8 +1,7 @@
 -- What is said of a line that the journal does not gain.
-use Rattle.std.specs.Prelude.{◌≡◌, ◌≢◌, ◌⊎◌, ◌≤◌, ◌<◌, ⊤, ℕ, ◌==◌, nat_le, Bool, true, false, ◌&&◌, List, [], ◌++◌}
+use Rattle.std.specs.Prelude.{◌≡◌, ◌≢◌, ◌⊎◌, ◌≤◌, ◌<◌, ⊤, ℕ, ◌==◌, nat_le, Bool, true, false, List, [], ◌++◌}
 use Rattle.std.specs.Prelude.{filter, codes}
 use Rattle.std.specs.Prelude.{length, Option, Some, None, slice_get, if◌then◌else◌}
-use Rattle.std.specs.List.{list_all}
 use Rattle.std.specs.Option.{is_some}
 use Rattle.la_set.specs.declared.counts.Counts.{Counts}
 use Rattle.la_set.specs.declared.tags.TheConstants.{MAX_TAGS}
@@ -10,7 +9,7 @@ use Rattle.la_set.specs.declared.update.Op.{Op}
 use Rattle.la_set.specs.declared.update.Op.TheVariants as op
 use Rattle.la_set.specs.declared.update.Update.{Update}
 use Rattle.la_set.specs.declared.update.UpdateId.{UpdateId}
-use Rattle.la_set.specs.Counts.{count_in, counts_of, from_counts}
+use Rattle.la_set.specs.Counts.{from_counts}
 use Rattle.la_set.specs.Histories.{Histories, history, count, get}
 use Rattle.la_set.specs.ObjectOps.{ObjectOp}
 use Rattle.la_own.specs.Own.{own_bytes_of}
@@ -32,18 +31,18 @@ use Rattle.la_replica.specs.Bases.{AreToldIn}
 use Rattle.la_replica.specs.Progress.{progress_of}
 use Rattle.la_replica.specs.ReplicaState.{ReplicaState}
 use Rattle.la_node.specs.declared.link.Links.{Links}
-use Rattle.la_node.specs.Accepting.{has_counts}
-use Rattle.la_node.specs.Links.{letters_of, is_owed, standing_of}
+use Rattle.la_node.specs.Links.{letters_of, is_owed, standing_of, wants_standing}
 use Rattle.la_node.specs.Nodes.{returned_by}
 use Rattle.la_wire.specs.declared.questions.Question.{Question}
 use Rattle.la_wire.specs.declared.questions.Question.TheVariants.{Tags, Updates, Update as UpdateOf, Status}
 use Rattle.la_wire.specs.declared.status.NodeStatus.{NodeStatus}
 use Rattle.la_wire.specs.declared.status.Tally.{Tally}
 use Rattle.la_wire.specs.Calls.{WireCall, Submit, Decide, Ask, Tick, Receive, Known}
-use Rattle.la_wire.specs.Messages.{WireMessage, WireBody, Offer, Yes, No, Tell}
+use Rattle.la_wire.specs.Messages.{WireMessage}
 use Rattle.la_wire.specs.Notes.{answered_note, refused_note, submitted_note, proposed_note, outcome_note, letters_text}
 use Rattle.la_wire.specs.Notes.{known_line, tags_note, update_note, updates_note, waiting_note}
 use Rattle.la_wire.specs.Status.{status_note}
+use Rattle.la_durable.specs.Nodes.{parcel_of}
 use Rattle.la_serve.specs.declared.said.Said.{Said}
 use Rattle.la_serve.specs.declared.said.Said.TheVariants as said
 use Rattle.la_serve.specs.declared.said.Why.{Why}
@@ -201,26 +200,15 @@ IsSaidAgain known n s =
     (mail : List code.Message) × (whole_mail mail ≡ again n) × ((offered : Counts) → AreToldIn n offered mail)
     × (text ≡ letters_text (letters_of known n (filter (is_owed known) mail)))) s
 
--- an update of this number, or a later one, of the same replica is there
-abbrev pub is_reached : (view : Counts) → Update → Bool
-is_reached view u = nat_le u.id.number (count_in view u.id.replica)
+-- a message over more than this node has, or that brings no news
+abbrev pub is_idle : ReplicaState → WireMessage → Bool
+is_idle n m = wants_standing n (parcel_of m)
 
--- a set that was learnt is told, and by its counts it has no more than the view
-abbrev pub is_told_known : (view : Histories) → WireBody → Bool
-is_told_known view (Tell base more) = has_counts view base && list_all (is_reached (counts_of view)) more
-is_told_known view (Offer base more) = false
-is_told_known view Yes = false
-is_told_known view (No base more) = false
-
--- a message that brings no news: it would change nothing, and nothing would be sent for it
-abbrev pub is_stale : ReplicaState → WireMessage → Bool
-is_stale n m = (m.instance == 0) && is_told_known n.view m.body
-
--- it is answered by how far this node is, so that it is not sent again
+-- it is answered by how far this node is, so that what is lacking is sent, and no more than that
 abbrev pub IsSaidOfMessage : ReplicaState → WireMessage → Option Said → Type 0
-IsSaidOfMessage n m None = is_stale n m ≡ false
+IsSaidOfMessage n m None = is_idle n m ≡ false
 IsSaidOfMessage n m (Some s) =
-    (is_stale n m ≡ true) × IsSaidText (λ text. text ≡ known_line (standing_of n m.from)) s
+    (is_idle n m ≡ true) × IsSaidText (λ text. text ≡ known_line (standing_of n m.from)) s
 
 -- ## Submissions
 

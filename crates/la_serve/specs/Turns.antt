@@ -12,6 +12,7 @@ use Rattle.la_replica.specs.declared.message.Message as code
 use Rattle.la_replica.specs.Whole.{whole_mail}
 use Rattle.la_replica.specs.Again.{again}
 use Rattle.la_replica.specs.Bases.{AreToldIn}
+use Rattle.la_replica.specs.Progress.{progress_of}
 use Rattle.la_replica.specs.Steps.{learnt_in}
 use Rattle.la_replica.specs.ReplicaState.{ReplicaState, submitted_in}
 use Rattle.la_io.specs.Limits.{is_too_long}
@@ -138,8 +139,9 @@ known_after n known (Decide replica commit value) = known
 known_after n known (Ask replica object query) = known
 known_after n known Tick = known
 known_after n known (Receive m) =
-    if m.replicas == length n.votes then known_with known m.from m.progress else known
-known_after n known (Known s) = if s.replicas == length n.votes then known_with known s.from s.progress else known
+    if m.replicas == length n.votes then known_with known (progress_of n) m.from m.progress else known
+known_after n known (Known s) =
+    if s.replicas == length n.votes then known_with known (progress_of n) s.from s.progress else known
 
 abbrev pub after_hearing : ServerState → WireCall → ServerState
 after_hearing n call = record { kept = n.kept; known = known_after n.kept n.known call }

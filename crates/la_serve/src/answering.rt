@@ -73,10 +73,10 @@ fn hear(links: &mut Links, machine: &NodeMachine, call: &Call)
     let replicas = machine.node.replicas();
     match call {
         Call::Receive(letter) if letter.replicas == replicas => {
-            links.hear(letter.parcel.from, letter.progress);
+            links.hear(letter.parcel.from, letter.progress, machine.node.progress());
         }
         Call::Known(standing) if standing.replicas == replicas => {
-            links.hear(standing.from, standing.progress);
+            links.hear(standing.from, standing.progress, machine.node.progress());
         }
         _ => {}
     }

@@ -1,14 +1,13 @@
 // What is said of a call in place of taking it.
 ghost use Rattle.std.specs.Prelude.{◌≡◌, ℕ, List, true};
-ghost use Rattle.std.specs.List.{list_all};
 ghost use Rattle.la_set.specs.Inclusion.{IsSubset};
 ghost use Rattle.la_object.specs.Shelves.{answer_at};
 ghost use Rattle.la_wire.specs.Calls.{called};
-ghost use Rattle.la_wire.specs.Messages.{said_content, letter_message};
+ghost use Rattle.la_wire.specs.Messages.{letter_message};
 ghost use Rattle.la_wire.specs.Notes.{waiting_note};
 ghost use Rattle.la_durable.specs.Nodes.{kept_by};
 ghost use Rattle.la_serve.specs.Asking.{heard_as};
-ghost use Rattle.la_serve.specs.Said.{shelf_by, is_stale, is_told_known, is_reached, may_be_taken, still_awaited};
+ghost use Rattle.la_serve.specs.Said.{shelf_by, is_idle, may_be_taken, still_awaited};
 ghost use Rattle.la_serve.specs.Said.{IsSaidAnswer, IsSaidAgain, IsSaidOfMessage, IsSaidText, IsSaidHere, IsSaidToAsk};
 
 use crate::asking::Asking;
@@ -16,43 +15,18 @@ use crate::counting::count_owed;
 use crate::numbered::{said_of_proposal, said_of_submission};
 use crate::said::{Said, Why};
 use crate::texts::{answer_text, mail_text, standing_text, waiting_text};
-use la_durable::{Input, NodeMachine};
+use la_durable::NodeMachine;
 use la_node::{Letter, Links};
 use la_object::{Query, Replicated, Shelf, ShelfError};
-use la_replica::Content;
-use la_set::{Counts, Delta, UpdateId, UpdateSet};
+use la_set::UpdateId;
 use la_wire::{Call, Kinds};
 use std::alloc::Global;
 
-// Whether a letter brings no news.
-fn is_stale(machine: &NodeMachine, letter: &Letter) -> bool
-    ensures { result ≡ is_stale (kept_by machine.now) (letter_message letter.now) }
+// Whether a letter tells over more than a node has, or brings no news.
+fn is_idle(machine: &NodeMachine, letter: &Letter) -> bool
+    ensures { result ≡ is_idle (kept_by machine.now) (letter_message letter.now) }
 {
-    letter.parcel.instance == 0 && is_known(machine.node.view(), &letter.parcel.content)
-}
-
-// Whether a set is told that has no more than a view, by its counts.
-fn is_known(view: &UpdateSet, content: &Content) -> bool
-    ensures { result ≡ is_told_known view.now (said_content content.now) }
-{
-    match content {
-        Content::Tell(delta) => view.has_counts(delta.base()) && is_within(view.counts(), delta),
-        Content::Offer(_) | Content::Yes | Content::No(_) => false,
-    }
-}
-
-// Whether no update beyond a delta's base has a number over these counts.
-fn is_within(counts: Counts, delta: &Delta) -> bool
-    ensures { result ≡ list_all (is_reached counts) delta.now.more }
-{
-    let mut within = true;
-    for place in 0..delta.len() {
-        let Some(update) = delta.at(place) else {
-            unreachable!()
-        };
-        within = within && update.id.number <= counts.of(update.id.replica);
-    }
-    within
+    machine.node.wants_standing(&letter.parcel)
 }
 
 // What an object on a shelf answers by a node's view, which the shelf absorbs first, to a request of this name.
@@ -117,11 +91,11 @@ pub fn said_again(alloc: Global, machine: &NodeMachine, links: &Links, sent: &mu
     }
 }
 
-// How far a node is, for another whose letter brought no news; nothing where it brought some.
+// How far a node is, for another whose letter told over more than the node has, or brought no news; nothing of any other.
 fn said_back(alloc: Global, machine: &NodeMachine, letter: &Letter) -> Option<Said>
     ensures { IsSaidOfMessage (kept_by machine.now) (letter_message letter.now) result }
 {
-    if !is_stale(machine, letter) {
+    if !is_idle(machine, letter) {
         return None;
     }
     match standing_text(alloc, &machine.node.standing(letter.parcel.from)) {

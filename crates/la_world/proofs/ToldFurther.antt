@@ -25,7 +25,7 @@ use Rattle.la_replica.proofs.lemmas.Alike.{alike_refl}
 use Rattle.la_node.specs.declared.config.Config.{Config}
 use Rattle.la_node.specs.declared.link.Links.{Links}
 use Rattle.la_node.specs.Calls.{NodeCall}
-use Rattle.la_node.specs.Links.{known_of, told_on}
+use Rattle.la_node.specs.Links.{believed_of, told_on}
 use Rattle.la_node.specs.Telling.{told_body}
 use Rattle.la_world.specs.Events.{Past}
 use Rattle.la_world.specs.Groups.{Group, replicas}
@@ -198,7 +198,7 @@ module _ (c : Config) (calls : List (ℕ × NodeCall)) (group : LiveGroup) (reac
       → TellsAs (told_on links m) n
   tells_sent m n has over same =
       let at = place n has in
-      tells_further (known_of links m.to).accepted m n over same
+      tells_further (believed_of links m.to).accepted m n over same
       (sent_few g events stands.led.legal stands.config.group.cap_most at.0 n at.1)
 
   pub sent_retold : (mail : List code.Message) → ((m : code.Message) → Contains mail m → Contains group.sent m)

@@ -59,6 +59,8 @@ impl Machine for Lease {
 
     ghost lacks_memory = { λ _. ⊥ };
 
+    ghost refuses = { λ taken ask _. taken_after taken ask ≡ None };
+
     ghost head = { lease_head };
 
     ghost round_trip = { ask_round_trip };

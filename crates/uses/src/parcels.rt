@@ -11,7 +11,7 @@ ghost use Rattle.uses.specs.Letters.{TakesAlong};
 use crate::groups::form;
 use la_node::{Config, Letter, Links, Node, WorldError};
 use la_object::{Counter, Replicated};
-use la_replica::{Mail, Parcel, ReplicaError};
+use la_replica::{Mail, Parcel, Progress, ReplicaError};
 use la_set::Op;
 use la_world::live;
 use std::alloc::{AllocError, Global};
@@ -45,12 +45,12 @@ impl Link {
         }
     }
 
-    /// A node learns by a letter how far its sender is.
-    pub fn hear(&mut self, node: u8, letter: &Letter)
+    /// A node that is so far itself learns how far another is.
+    pub fn hear(&mut self, node: u8, other: u8, progress: Progress, own: Progress)
         ensures { self.new.letters.items ≡ self.old.letters.items }
     {
         if (node as usize) < 8 {
-            self.links[node as usize].hear(letter.parcel.from, letter.progress);
+            self.links[node as usize].hear(other, progress, own);
         }
     }
 
@@ -108,7 +108,8 @@ pub fn deliver_next<B: Replicated>(
     }
 }
 
-// A letter of another group, or for no node here, is lost.
+// A letter of another group, or for no node here, is lost. One that is over more than its receiver has, or is no news
+// there, tells its sender how far that is.
 fn deliver<B: Replicated>(
     alloc: Global,
     group: &mut [Node<B>],
@@ -123,10 +124,24 @@ fn deliver<B: Replicated>(
     if to as usize >= group.len() || group[to as usize].replicas() != letter.replicas {
         return Ok(());
     }
-    link.hear(to, &letter);
+    let (from, here) = (letter.parcel.from, group[to as usize].progress());
+    link.hear(to, from, letter.progress, here);
+    if group[to as usize].wants_standing(&letter.parcel) {
+        answer(group, link, from, (to, here));
+        return Ok(());
+    }
     let mail = mail_by(&mut group[to as usize], letter.parcel)?;
     link.send(alloc, &group[to as usize], mail)?;
     Ok(())
+}
+
+// The sender of a letter hears how far its receiver is.
+fn answer<B: Replicated>(group: &[Node<B>], link: &mut Link, from: u8, receiver: (u8, Progress))
+    ensures { link.new.letters.items ≡ link.old.letters.items }
+{
+    if let Some(sender) = group.get(from as usize) {
+        link.hear(from, receiver.0, receiver.1, sender.progress());
+    }
 }
 
 // What a node sends by a parcel.

@@ -13,7 +13,7 @@ use Rattle.la_replica.proofs.lemmas.Alike.{alike_refl}
 use Rattle.la_replica.proofs.lemmas.Furthering.{further_is_rebased}
 use Rattle.la_node.specs.declared.link.Letter.{Letter}
 use Rattle.la_node.specs.declared.link.Links.{Links}
-use Rattle.la_node.specs.Links.{known_of, letter_of, letters_of, told_on, AreOffersOver}
+use Rattle.la_node.specs.Links.{believed_of, letter_of, letters_of, told_on, AreOffersOver}
 use Rattle.la_world.specs.LiveParcels.{IsParcelAmong, AreParcelsAmong, parcels_of, mail_on, LettersTellWhatWasSent}
 use Rattle.la_world.specs.Rebased.{TellsAs, IsRetold, AreRetold}
 use Rattle.la_world.proofs.Lists.{IsIn_contains, contains_IsIn, IsIn_mapped, IsIn_place, IsIn_get, get_mapped}
@@ -40,7 +40,7 @@ mapped_has f xs x has =
     IsIn_contains (map f xs) (f x) (IsIn_get (map f xs) place.0 (f x) (get_mapped f xs place.0 x place.1))
 
 tells : (links : Links) (m : code.Message) → IsOfferOver (told_on links m).body → TellsAs (told_on links m) m
-tells links m over = elim (further_is_rebased (known_of links m.to).accepted m over) [
+tells links m over = elim (further_is_rebased (believed_of links m.to).accepted m over) [
   | inl same ↦ inl (subst (λ k. AreAlike k m) (sym same) (alike_refl m))
   | inr is ↦ inr (
     is.0,
@@ -62,7 +62,7 @@ among links r mail p has =
     let letter = mapped_from (λ (l : Letter). l.parcel) (letters_of links r mail) p has in
     let found = mapped_from (letter_of links r) mail letter.0 letter.1 in
     let m = found.0 in
-    let believed = (known_of links m.to).view in
+    let believed = (believed_of links m.to).view in
     subst (λ q. IsParcelAmong q (mail_on links mail)) (ap (λ (l : Letter). l.parcel) found.2 ∙ letter.2)
     (told_on links m, mapped_has (told_on links) mail m found.1, (believed, parcels_refl (wrapped believed (told_on links m))))
 

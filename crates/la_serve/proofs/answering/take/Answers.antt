@@ -20,7 +20,8 @@ returns-in-Ok-clause-ok g c =
     c.args.input.now _ _ (given_of c.in-Taken.given)
     out.0 out.1 refl _
     (c.deref.ensures.value
-    ∙ same_text _ _ _ _ (kept_by c.keep.new.node.durable.machine) _ _ _ _ (given_of c.in-Taken.given) c.in-Ok.ensures
+    ∙ same_text _ _ _ c.args.server.now.links (kept_by c.keep.new.node.durable.machine) _ _ _ _
+    (given_of c.in-Taken.given) c.in-Ok.ensures
     (c.len-before.ensures.len ∙ ap (λ v. length (updates v)) c.view.ensures) (ap called c.call.ensures.is)
     refl)
     c.in_ok-write_lines-in-Ok.ensures.ok
@@ -34,7 +35,8 @@ returns-in_err-write_lines-in-Ok-clause-err g c =
     c.args.input.now _ _
     (given_of c.in-Taken.given) out.0 out.1 refl _
     (c.deref.ensures.value
-    ∙ same_text _ _ _ _ (kept_by c.keep.new.node.durable.machine) _ _ _ _ (given_of c.in-Taken.given) c.in-Ok.ensures
+    ∙ same_text _ _ _ c.args.server.now.links (kept_by c.keep.new.node.durable.machine) _ _ _ _
+    (given_of c.in-Taken.given) c.in-Ok.ensures
     (c.len-before.ensures.len ∙ ap (λ v. length (updates v)) c.view.ensures) (ap called c.call.ensures.is)
     refl)
     c.in_err-write_lines-in-Ok.ensures.err)

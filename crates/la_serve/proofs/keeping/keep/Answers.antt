@@ -3,7 +3,7 @@ use Rattle.la_journal.specs.Records.{ended}
 use Rattle.la_wire.specs.Calls.{called}
 use Rattle.la_durable.specs.CallLines.{or_tick, call_line}
 use Rattle.la_durable.specs.Nodes.{says_still}
-use Rattle.la_serve.proofs.Acting.{acted, kept_alike, line_of_input, cause_of}
+use Rattle.la_durable.proofs.lemmas.Kept.{acted, kept_alike, line_of_input, cause_of}
 use Rattle.la_serve.proofs.keeping.keep.Goals as goal
 
 pub returns-in-Ok-clause-outcome : goal.returns-in-Ok-clause-outcome
