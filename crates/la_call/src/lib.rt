@@ -20,6 +20,3 @@ pub use error::CallFault;
 pub use options::CallOptions;
 pub use reading::command;
 pub use words::MAX_NAME;
-
-#[cfg(test)]
-mod tests;

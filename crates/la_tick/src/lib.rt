@@ -13,6 +13,3 @@ mod reading;
 mod ticked;
 
 pub use ticked::{TickFault, Ticked};
-
-#[cfg(test)]
-mod tests;

@@ -3,12 +3,6 @@
 #![tactic(auto)]
 
 #[cfg(test)]
-mod acceptor;
-#[cfg(test)]
-mod commit;
-#[cfg(test)]
-mod given;
-#[cfg(test)]
 mod holds;
 #[cfg(test)]
 mod object;
@@ -16,8 +10,6 @@ mod object;
 mod orset;
 #[cfg(test)]
 mod proposer;
-#[cfg(test)]
-mod replica;
 #[cfg(test)]
 mod set;
 #[cfg(test)]

@@ -1,7 +1,4 @@
-// la_object: shelves as tables, and a test's own objects.
+// la_object and la_closed: a counter at its edge, and a set on an open shelf.
 mod closed;
 mod edges;
 pub mod helpers;
-mod ids;
-pub mod plays;
-mod refusals;

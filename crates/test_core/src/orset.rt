@@ -1,6 +1,4 @@
-// la_orset: sets and chains as tables.
+// la_orset: a Remove before its Put, chains, and many elements.
 mod chains;
 mod many;
-mod plays;
-pub mod shelves;
-mod tags;
+mod removes;

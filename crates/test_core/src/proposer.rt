@@ -1,7 +1,2 @@
-// la_proposer: runs as tables.
-mod beyond;
-mod plays;
-mod reports;
-mod resumed;
-mod runs;
+// la_proposer: a proposer at its limit.
 mod spent;

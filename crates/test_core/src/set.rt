@@ -1,6 +1,5 @@
-// la_set: runs as tables.
+// la_set: sets and deltas of tables, and many updates.
 mod deltas;
 pub mod helpers;
 mod histories;
 mod runs;
-mod tags;

@@ -1,6 +1,5 @@
-// Journals of which bytes have changed, and journals of others.
+// Journals of which a bit has changed.
 use crate::given::{Start, file_of, holds, started};
-use crate::{HEAD, journal_of};
 use la_journal::MemoryDisk;
 use std::alloc::{AllocError, Global};
 use std::process::Abort;
@@ -96,81 +95,4 @@ fn changed_bytes_of_a_state(rt: HostRuntime) {
         holds(&rt, "a changed byte", come);
         from = to;
     }
-}
-
-// A file whose first line has an end, or has none, and is no head.
-const HEADLESS: &[&[u8]] = &[
-    b"\n",
-    b"\0",
-    b"tally 1",
-    b"tally 1\n",
-    b"tally 1 \n",
-    b"u\nu\n",
-    b"tally 1 0123456789abcdef\n",
-];
-
-#[test]
-fn no_heads(rt: HostRuntime) {
-    let alloc = rt.alloc();
-    for bytes in HEADLESS {
-        let Ok(file) = bytes.to_vec(alloc) else {
-            panic!(rt; "out of memory");
-        };
-        let found = started(alloc, MemoryDisk::new(alloc, file));
-        holds(&rt, "no head", found == Start::NoHead);
-    }
-}
-
-// A head that was not written whole is none.
-#[test]
-fn cut_heads(rt: HostRuntime) {
-    let alloc = rt.alloc();
-    let Ok(mut file) = file_of(alloc, &[], b"") else {
-        panic!(rt; "out of memory");
-    };
-    for _ in 1..file.len() {
-        let _ = file.pop();
-        let Ok(copy) = file.clone() else {
-            panic!(rt; "out of memory");
-        };
-        let found = started(alloc, MemoryDisk::new(alloc, copy));
-        holds(&rt, "no head", found == Start::NoHead);
-    }
-}
-
-// Heads, and what a start of a tally comes to on a journal with them.
-const HEADS: &[(&[u8], Start)] = &[
-    (HEAD, Start::At(1, 0)),
-    (b"tally 2", Start::OtherHead(6)),
-    (b"tally 10", Start::OtherHead(7)),
-    (b"tally", Start::OtherHead(5)),
-    (b"", Start::OtherHead(0)),
-    (b"a lease", Start::OtherHead(0)),
-];
-
-#[test]
-fn other_heads(rt: HostRuntime) {
-    let alloc = rt.alloc();
-    for (head, start) in HEADS {
-        let Ok(file) = journal_of(alloc, head, &[b"u\n"]) else {
-            panic!(rt; "out of memory");
-        };
-        let found = started(alloc, MemoryDisk::new(alloc, file));
-        holds(&rt, "a head", found == *start);
-    }
-}
-
-// The groups of two journals, each with its record: those of the second are not read behind those of the first.
-#[test]
-fn groups_of_another(rt: HostRuntime) {
-    let alloc = rt.alloc();
-    let Ok(other) = file_of(alloc, &[b"u\nu\n", b"u\n"], b"") else {
-        panic!(rt; "out of memory");
-    };
-    let (_, behind) = other.split_at(length_of(&rt, alloc, 0).min(other.len()));
-    let Ok(file) = file_of(alloc, &[b"u\n"], behind) else {
-        panic!(rt; "out of memory");
-    };
-    let found = started(alloc, MemoryDisk::new(alloc, file));
-    holds(&rt, "groups", found == Start::Damaged(4));
 }

@@ -11,16 +11,12 @@ mod damages;
 mod folders;
 #[cfg(test)]
 mod given;
-#[cfg(test)]
-mod groups;
 mod kept;
 #[cfg(test)]
 mod lives;
 mod made;
 #[cfg(test)]
 mod recorded;
-#[cfg(test)]
-mod shy;
 mod tally;
 #[cfg(test)]
 mod told;

@@ -4,12 +4,10 @@ ghost use Rattle.std.specs.Prelude.{◌≡◌, false};
 ghost use Rattle.la_journal.specs.Durable.{IsSettled};
 
 use crate::given::{Start, disk_of, has, holds, recovered, started, tally_over};
-use crate::told::{Failing, Told};
-use crate::torn::{Way, are_met, behind, is_never_left, torn_of};
+use crate::told::Told;
+use crate::torn::{Way, are_met, behind, torn_of};
 use crate::{Move, Tally, Total};
-use la_journal::{
-    Disk, Durable, MemoryDisk, Refused, Unserved, serve_all, serve_groups, start_again,
-};
+use la_journal::{Disk, Durable, MemoryDisk, Refused, serve_all, serve_groups, start_again};
 use std::alloc::Global;
 use std::process::Abort;
 
@@ -132,53 +130,6 @@ fn a_crash_during_a_start(rt: HostRuntime) {
     holds(&rt, "a crash", started(alloc, left) == Start::At(2, 0));
 }
 
-// The next process reads a part of a group, which it cuts; where its start fails, it stands there yet.
-#[test]
-fn a_crash_before_a_cut(rt: HostRuntime) {
-    let alloc = rt.alloc();
-    let disk = unsynced(&rt, alloc);
-    let Ok(Some(mut found)) = disk.restart(b"u\n~") else {
-        panic!(rt; "no restart");
-    };
-    found.fail_after(0);
-    let Err((_, dead)) = recovered(alloc, found) else {
-        panic!(rt; "a start");
-    };
-    holds(&rt, "no other", is_never_left(&dead, b"u"));
-    let Ok(Some(left)) = dead.crash(b"") else {
-        panic!(rt; "out of memory");
-    };
-    holds(&rt, "a crash", started(alloc, left) == Start::At(1, 3));
-}
-
-// An outlet that fails ends the serving: what it was given was taken, and no more.
-#[test]
-fn an_outlet_that_fails(rt: HostRuntime) {
-    let alloc = rt.alloc();
-    let mut node = tally_over(&rt, alloc, disk_of(&rt, alloc, &[], b""));
-    let mut failing = Failing {
-        told: Told::new(&rt, alloc),
-        most: 1,
-        failures: 0,
-    };
-    let served = serve_all(
-        alloc,
-        &mut node,
-        &[Move::Up, Move::Up, Move::Up],
-        &mut failing,
-    );
-    holds(
-        &rt,
-        "an end",
-        matches!(served, Err(Unserved::Outlet)) && failing.told.given.len() == 2,
-    );
-    holds(
-        &rt,
-        "what was taken",
-        node.machine.total == 2 && has(alloc, &node.disk, &[b"u\n", b"u\n"]),
-    );
-}
-
 // After so many syncs the disk fails, of two groups of two and one: so many answers, and where the next life begins, if
 // the crash leaves none of the group whose sync failed, and if it leaves all of it.
 const GROUPS: &[(u32, usize, (u64, u64))] = &[(0, 0, (0, 2)), (1, 1, (2, 3))];
@@ -243,27 +194,4 @@ fn a_life_in_groups(rt: HostRuntime) {
         panic!(rt; "out of memory");
     };
     holds(&rt, "a start", started(alloc, left) == Start::At(3, 0));
-}
-
-// Of a group whose last input is refused the others are taken and answered.
-#[test]
-fn a_refusal_in_a_group(rt: HostRuntime) {
-    let alloc = rt.alloc();
-    let mut node = tally_over(&rt, alloc, disk_of(&rt, alloc, &[], b""));
-    let Ok(group) = vec![in alloc; Move::Up, Move::Down, Move::Down] else {
-        panic!(rt; "out of memory");
-    };
-    let mut told = Told::new(&rt, alloc);
-    let served = serve_groups(alloc, &mut node, &[group], &mut told);
-    holds(
-        &rt,
-        "a refusal",
-        matches!(served, Err(Unserved::Refused(Refused::Machine(_)))),
-    );
-    holds(
-        &rt,
-        "the others",
-        told.given.len() == 1
-            && told.given[0].1.as_slice() == [Total::Moved(1), Total::Moved(0)].as_slice(),
-    );
 }

@@ -87,6 +87,8 @@ impl Machine for Tally {
 
     ghost lacks_memory = { λ _. ⊥ };
 
+    ghost refuses = { λ total m _. moved total m ≡ None };
+
     ghost head = { head };
 
     ghost round_trip = { round_trip };

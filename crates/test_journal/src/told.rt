@@ -1,7 +1,6 @@
 // An outlet that keeps what it is given.
 ghost use Rattle.std.specs.Prelude.{◌≡◌, []};
 
-use crate::Total;
 use la_journal::{MemoryDisk, Outlet, OutletFault};
 use std::alloc::Global;
 use std::process::Abort;
@@ -37,38 +36,5 @@ impl<A: Abort + Copy + Drop, T: Drop> Outlet<MemoryDisk> for Told<A, T> {
             panic!(self.rt; "out of memory");
         };
         Ok(())
-    }
-}
-
-/// One that fails at each answer behind so many. What it was given then counts as given out too.
-#[derive(Drop)]
-pub struct Failing<A: Abort + Copy + Drop> {
-    pub told: Told<A, Total>,
-    pub most: usize,
-    pub failures: u64,
-}
-
-impl<A: Abort + Copy + Drop> Outlet<MemoryDisk> for Failing<A> {
-    ghost use Rattle.test_journal.specs.Told.{told};
-
-    type Item = Total;
-
-    ghost said = { λ o. told o.told.given.items };
-
-    ghost faults = { λ o. o.failures };
-
-    fn give(&mut self, disk: &MemoryDisk, item: Total) -> Result<(), OutletFault> {
-        let is_full = self.told.given.len() >= self.most;
-        let Ok(()) = self.told.given.push((disk.moment(), item)) else {
-            panic!(self.told.rt; "out of memory");
-        };
-        if !is_full {
-            return Ok(());
-        }
-        let Some(failures) = self.failures.checked_add(1) else {
-            panic!(self.told.rt; "too many failures");
-        };
-        self.failures = failures;
-        Err(OutletFault)
     }
 }

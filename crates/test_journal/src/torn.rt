@@ -122,8 +122,3 @@ fn are_met_at(
     }
     true
 }
-
-/// Whether no crash leaves this of a disk.
-pub fn is_never_left(disk: &MemoryDisk, torn: &[u8]) -> bool {
-    matches!(disk.crash(torn), Ok(None))
-}

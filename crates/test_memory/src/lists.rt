@@ -58,10 +58,11 @@ enum Edit {
 // The replica, the number, and what is done. What is put in has the replica as its value.
 type Row = (u8, u32, Edit);
 
-// 1.1 and 2.1 go to one place at one time, 2.2 behind what is taken out, and 1.3 behind nothing.
+// 0.2 is stamped before 0.1; 1.1 and 2.1 go to one place at one time, 2.2 behind what is taken out, and 1.3 behind
+// nothing.
 const EDITS: [Row; 7] = [
-    (0, 1, Edit::First(0)),
-    (0, 2, Edit::First(1)),
+    (0, 1, Edit::First(1)),
+    (0, 2, Edit::First(0)),
     (1, 1, Edit::Behind(0, 1, 1)),
     (1, 2, Edit::Out(0, 1)),
     (1, 3, Edit::Behind(7, 9, 3)),
@@ -69,7 +70,7 @@ const EDITS: [Row; 7] = [
     (2, 2, Edit::Behind(0, 1, 5)),
 ];
 
-const SHOWN: [(u8, u32); 4] = [(0, 2), (2, 2), (2, 1), (1, 1)];
+const SHOWN: [(u8, u32); 4] = [(2, 2), (2, 1), (1, 1), (0, 2)];
 
 fn op_of(alloc: Global, row: &Row) -> Option<Op> {
     let (replica, _, edit) = *row;

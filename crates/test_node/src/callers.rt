@@ -10,7 +10,7 @@ use la_node::{Config, Node};
 use la_object::{Answer, Counter, Query, Replicated};
 use la_orset::OrSet;
 use la_proposer::{Proposer, Votes};
-use la_replica::{Body, Mail, Message, Progress, Replica, ReplicaError};
+use la_replica::{Body, Mail, Message, Progress, Replica};
 use la_set::{Counts, Op, Update, UpdateId, UpdateSet};
 use la_world::Report;
 use std::alloc::Global;
@@ -285,7 +285,7 @@ fn parcels(alloc: Global) -> Option<bool> {
     Some(group.len() == 3 && are_one(group[0].view(), group[2].view()))
 }
 
-// A set that is told over more than its receiver's view has is refused, and the node is as before; from who
+// A set that is told over more than its receiver's view has is not received, and the node is as before; from who
 // believes nothing of it, the set is taken.
 fn wrong_beliefs(alloc: Global) -> Option<bool> {
     let mut group = form(alloc, three()).ok()?;
@@ -296,7 +296,7 @@ fn wrong_beliefs(alloc: Global) -> Option<bool> {
         accepted: Counts::zero(),
         view: set.counts(),
     };
-    link.links[0].hear(1, wrong);
+    link.links[0].hear(1, wrong, Progress::none());
     let refused = tells(alloc, &mut group, &mut link, &set)?;
     let unchanged = group.get(1)?.view().len() == 0;
     let mut other = Link::new(alloc);
@@ -304,7 +304,7 @@ fn wrong_beliefs(alloc: Global) -> Option<bool> {
     Some(!refused && unchanged && taken && group.get(1)?.view().same(&set))
 }
 
-// Whether node 1 takes a set that node 0 tells it, and else has not its base.
+// Whether node 1 takes a set that node 0 tells it.
 fn tells(
     alloc: Global,
     group: &mut [Node<Counter>],
@@ -320,11 +320,9 @@ fn tells(
     };
     let mail = Mail::one(alloc, tell);
     link.send(alloc, group.first()?, mail).ok()?;
-    match deliver_next(alloc, group, link) {
-        Ok(()) => Some(true),
-        Err(ReplicaError::NoBase) => Some(false),
-        Err(_) => None,
-    }
+    let before = group.get(1)?.view().len();
+    deliver_next(alloc, group, link).ok()?;
+    Some(group.get(1)?.view().len() > before)
 }
 
 fn are_one(one: &UpdateSet, other: &UpdateSet) -> bool {

@@ -1,4 +1,4 @@
-// A node on a journal: what it gives out, what the journal has, and what a start comes to.
+// A node on a journal: what it gives out, what the journal has, and what it refuses.
 ghost use Rattle.std.specs.Prelude.{◌≡◌, false, IfSome};
 ghost use Rattle.la_journal.specs.Durable.{IsSettled};
 
@@ -38,19 +38,12 @@ const GAP: NodeError = NodeError::Replica(ReplicaError::Gap);
 const NO_BASE: NodeError = NodeError::Replica(ReplicaError::NoBase);
 
 // Once its view has one update, and nothing else.
-const REFUSED: [(&str, NodeError); 17] = [
+const REFUSED: [(&str, NodeError); 9] = [
     ("submit 1 1 inc 5", NodeError::Elsewhere),
-    ("decide 1 0 7", NodeError::Elsewhere),
     ("yes 2 0 0 0 1 has 1 view 0", NodeError::Elsewhere),
     ("tick", NodeError::Unkept),
-    ("ask 0 1 total", NodeError::Unkept),
-    ("known 1 0 0 has 1 view 1", NodeError::Unkept),
     (
         "yes 1 3 0 0 1 has 1 view 0",
-        NodeError::Replica(ReplicaError::NoSuchReplica),
-    ),
-    (
-        "tell 1 0 1 0 2 has 2 view 2 base 1;0.2 1 inc 5",
         NodeError::Replica(ReplicaError::NoSuchReplica),
     ),
     (
@@ -58,15 +51,8 @@ const REFUSED: [(&str, NodeError); 17] = [
         NodeError::Replica(ReplicaError::NoSuchInstance),
     ),
     ("tell 1 0 0 0 2 has 2 view 2 base 0;0.2 1 inc 5", GAP),
-    (
-        "tell 1 0 0 0 2 has 2 view 2 base 0;0.1 1 inc 5;0.1 1 inc 5",
-        GAP,
-    ),
     ("tell 1 0 0 0 2 has 2 view 2 base 0;8.1 1 inc 5", GAP),
-    ("tell 1 0 0 0 2 has 3 view 3 base 1;0.3 1 inc 5", GAP),
-    ("tell 1 0 0 0 2 has 2 view 2 base 2", NO_BASE),
     ("tell 1 0 0 0 2 has 3 view 3 base 2;0.3 1 inc 5", NO_BASE),
-    ("tell 1 0 0 0 2 has 2 view 2 base 1,1;0.2 1 inc 5", NO_BASE),
     (
         "decide 0 0 7",
         NodeError::Proposal(WorldError::NoSuchCommit),
@@ -89,12 +75,10 @@ fn machine(alloc: Global) -> Option<NodeMachine> {
     NodeMachine::new(alloc, config, 0).ok()
 }
 
-// A node's journal with these groups, and these bytes behind it.
-fn file_of(alloc: Global, groups: &[&[u8]], behind: &[u8]) -> Option<Vec<u8>> {
+// A node's journal with these groups.
+fn file_of(alloc: Global, groups: &[&[u8]]) -> Option<Vec<u8>> {
     let head = machine(alloc)?.head(alloc).ok()?;
-    let mut file = journal_of(alloc, &head, groups).ok()?;
-    file.extend_from_slice(behind).ok()?;
-    Some(file)
+    journal_of(alloc, &head, groups).ok()
 }
 
 fn started(alloc: Global, file: Option<Vec<u8>>) -> Option<Durable<NodeMachine, MemoryDisk>>
@@ -110,15 +94,9 @@ fn started(alloc: Global, file: Option<Vec<u8>>) -> Option<Durable<NodeMachine, 
     }
 }
 
-// Whether a start on these groups, with these bytes behind them, cuts so many of them; `None` where there is none.
-fn cut(alloc: Global, groups: &[&[u8]], behind: &[u8]) -> Option<usize> {
-    let node = started(alloc, file_of(alloc, groups, behind))?;
-    Some(node.cut)
-}
-
 // Whether a node's journal has these groups, and nothing else.
 fn has(alloc: Global, node: &Durable<NodeMachine, MemoryDisk>, groups: &[&[u8]]) -> bool {
-    match file_of(alloc, groups, b"") {
+    match file_of(alloc, groups) {
         Some(file) => node.disk.bytes() == file.as_slice(),
         None => false,
     }
@@ -183,72 +161,9 @@ fn a_round_and_a_start(rt: HostRuntime) {
     holds(&rt, "journal", has(alloc, &node, GROUPS));
 }
 
-// Groups and bytes behind them, and how many of these a start cuts; `None` where there is no start.
-const STARTS: &[(&[&[u8]], &[u8], Option<usize>)] = &[
-    (GROUPS, b"", Some(0)),
-    (&[b"submit 0 1 inc 5\n"], b"sub", Some(3)),
-    (
-        &[b"submit 0 1 inc 5\n"],
-        b"yes 1 3 0 0 1 has 1 view 0\n",
-        Some(27),
-    ),
-    (&[b"submit 0 1\n"], b"", None),
-    (&[b"yes 1 3 0 0 1 has 1 view 0\n"], b"", None),
-    (&[b"yes 1 0 0 0 1\n"], b"", None),
-    (
-        &[b"tell 1 0 0 0 1 has 0 view 0 base 0;0.1 1 inc 5\n"],
-        b"",
-        Some(0),
-    ),
-    (
-        &[b"tell 1 0 0 0 1 has 0 view 0 base 0;0.2 1 inc 5\n"],
-        b"",
-        None,
-    ),
-    (&[b"tell 1 0 0 0 1 has 0 view 0 base 1\n"], b"", None),
-    (&[b"known 1 0 0 has 0 view 0\n"], b"", None),
-];
-
-#[test]
-fn starts_of_a_node(rt: HostRuntime) {
-    let alloc = rt.alloc();
-    let Some(node) = started(alloc, file_of(alloc, GROUPS, b"")) else {
-        panic!(rt; "no start");
-    };
-    holds(&rt, "learnt", has_learnt(&node));
-    for (groups, behind, comes) in STARTS {
-        holds(&rt, "a start", cut(alloc, groups, behind) == *comes);
-    }
-}
-
-// Lines without a head, and under the head of another machine, or of one with other lines.
-#[test]
-fn no_journals_of_a_node(rt: HostRuntime) {
-    let alloc = rt.alloc();
-    let lines = b"submit 0 1 inc 5\n".to_vec(alloc).ok();
-    holds(
-        &rt,
-        "no head",
-        lines.is_some() && started(alloc, lines).is_none(),
-    );
-    let other = journal_of(alloc, b"tally 1", &[]).ok();
-    holds(
-        &rt,
-        "another",
-        other.is_some() && started(alloc, other).is_none(),
-    );
-    let before = b"lattice 1 replica 0 of 1 votes 1 commits 0 cap 10";
-    let old = journal_of(alloc, before, &[]).ok();
-    holds(
-        &rt,
-        "an older one",
-        old.is_some() && started(alloc, old).is_none(),
-    );
-}
-
 // Whether a node refuses so, and its journal stays.
 fn refuses_and_stays(alloc: Global, row: &(&str, NodeError)) -> bool {
-    let Some(mut node) = started(alloc, file_of(alloc, GROUPS, b"")) else {
+    let Some(mut node) = started(alloc, file_of(alloc, GROUPS)) else {
         return false;
     };
     refuses(alloc, &mut node, row) && has(alloc, &node, GROUPS)
@@ -264,7 +179,7 @@ fn refusals_of_a_node(rt: HostRuntime) {
 
 // Whether a node takes what it is told, and sends nothing.
 fn takes_told(alloc: Global, line: &str) -> bool {
-    let Some(mut node) = started(alloc, file_of(alloc, GROUPS, b"")) else {
+    let Some(mut node) = started(alloc, file_of(alloc, GROUPS)) else {
         return false;
     };
     takes(alloc, &mut node, &(line, "")) && node.machine.node.view().len() == 2

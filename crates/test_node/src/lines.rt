@@ -54,7 +54,7 @@ const EIGHT: [u32; 8] = [4294967295, 1, 20, 300, 4000, 50000, 600000, 1000000];
 
 const NOWHERE: Far = (NONE, NONE);
 
-const LINES: [(&str, Want); 32] = [
+const LINES: [(&str, Want); 25] = [
     ("tick", Tick),
     (
         "submit 255 65535 inc 4294967295",
@@ -66,7 +66,6 @@ const LINES: [(&str, Want); 32] = [
         Submit(2, 1, Raise(18446744073709551615)),
     ),
     ("submit 0 3 put 10", Submit(0, 3, Put(10))),
-    ("submit 0 3 remove", Submit(0, 3, Remove(&[]))),
     (
         "submit 0 3 remove 0.1 0.2 255.4294967295",
         Submit(0, 3, Remove(&[(0, 1), (0, 2), (255, 4294967295)])),
@@ -109,10 +108,6 @@ const LINES: [(&str, Want); 32] = [
         ),
     ),
     (
-        "offer 3 0 1 0 5 has 0 view 0 base 0;0.3 1 inc 5",
-        Offer([3, 0, 1, 0], 5, NOWHERE, NONE, &[(0, 3, 1, Inc(5))]),
-    ),
-    (
         "no 8 255 254 253 4294967295 has 4294967295,1,20,300,4000,50000,600000,1000000 view 0,0,7 \
          base 4294967295,1,20,300,4000,50000,600000,1000000;255.4294967295 65535 mark",
         No(
@@ -134,22 +129,8 @@ const LINES: [(&str, Want); 32] = [
         ),
     ),
     (
-        "tell 3 0 1 0 5 has 0 view 0 base 0",
-        Tell([3, 0, 1, 0], 5, NOWHERE, NONE, &[]),
-    ),
-    (
         "tell 3 0 1 0 5 has 0,0,7 view 0,0,7 base 0,0,7",
         Tell([3, 0, 1, 0], 5, (SEVEN, SEVEN), SEVEN, &[]),
-    ),
-    (
-        "tell 3 0 1 0 5 has 0 view 0 base 0;0.1 3 put 4;0.2 3 remove 0.1",
-        Tell(
-            [3, 0, 1, 0],
-            5,
-            NOWHERE,
-            NONE,
-            &[(0, 1, 3, Put(4)), (0, 2, 3, Remove(&[(0, 1)]))],
-        ),
     ),
     (
         "tell 2 1 0 0 9 has 1 view 0,0,7 base 1;0.2 1 dec 1;7.1 0 mark;7.2 0 mark",
@@ -163,10 +144,6 @@ const LINES: [(&str, Want); 32] = [
     ),
     // whose updates do not come next: what they come to is for the node to say
     (
-        "tell 3 0 1 0 5 has 0 view 0 base 0;0.2 1 inc 5",
-        Tell([3, 0, 1, 0], 5, NOWHERE, NONE, &[(0, 2, 1, Inc(5))]),
-    ),
-    (
         "tell 3 0 1 0 5 has 0 view 0 base 0;0.1 1 inc 5;0.1 1 inc 5",
         Tell(
             [3, 0, 1, 0],
@@ -176,11 +153,6 @@ const LINES: [(&str, Want); 32] = [
             &[(0, 1, 1, Inc(5)), (0, 1, 1, Inc(5))],
         ),
     ),
-    (
-        "tell 3 0 1 0 5 has 0 view 0 base 0;8.1 1 inc 5",
-        Tell([3, 0, 1, 0], 5, NOWHERE, NONE, &[(8, 1, 1, Inc(5))]),
-    ),
-    ("known 3 1 0 has 0 view 0", Known([3, 1, 0], NOWHERE)),
     (
         "known 1 0 0 has 1 view 0,0,7",
         Known([1, 0, 0], (ONE, SEVEN)),
@@ -215,106 +187,45 @@ const LONGER: [(&str, Want); 5] = [
     ),
 ];
 
-const FAULTS: [(&str, LineFault); 91] = [
+const FAULTS: [(&str, LineFault); 41] = [
     ("", LineFault::BadLine),
     ("tock", LineFault::BadLine),
-    ("tick ", LineFault::BadLine),
     ("deliver 3", LineFault::BadLine),
     ("submit 0 1 vote 3", LineFault::BadLine),
-    ("submit 0 9 own", LineFault::BadLine),
     ("submit 0 9 own ", LineFault::BadNumber),
-    ("submit 0 9 own 0", LineFault::BadNumber),
     ("submit 0 9 own 0g", LineFault::BadNumber),
-    ("submit 0 9 own 00 00", LineFault::BadLine),
-    ("submit 0 9  own 00", LineFault::BadLine),
-    ("submit 256 9 own 00", LineFault::BadNumber),
-    ("submit 0 65536 own 00", LineFault::BadNumber),
-    (
-        "tell 3 0 1 0 5 has 0 view 0 base 0;0.1 9 own",
-        LineFault::BadLine,
-    ),
     (
         "tell 3 0 1 0 5 has 0 view 0 base 0;0.1 9 own 0",
         LineFault::BadNumber,
     ),
-    (
-        "tell 3 0 1 0 5 has 0 view 0 base 0;0.1 9 own - -",
-        LineFault::BadLine,
-    ),
     ("submit 0 1 inc 4294967296", LineFault::BadNumber),
     ("submit 0 1 inc 5;0.1 1 inc 5", LineFault::BadLine),
-    ("yes", LineFault::BadLine),
-    ("yes 3 1 0 0", LineFault::BadLine),
     ("yes 3 1 0 0 has 0 view 0", LineFault::BadNumber),
     ("yes 3 1 0 0 5 6 has 0 view 0", LineFault::BadLine),
-    ("yes  3 1 0 0 5 has 0 view 0", LineFault::BadNumber),
-    ("yes 3 1 0 0 5  has 0 view 0", LineFault::BadLine),
     ("yes 3 1 0 0 5 has 0 view 0 ", LineFault::BadLine),
-    ("yes 3 1 0 0 5 has 0 view 0;", LineFault::BadLine),
-    ("yes 3 1 0 0 5 has 0 view 0 base 0", LineFault::BadLine),
-    ("yes 0 1 0 0 5 has 0 view 0", LineFault::BadNumber),
     ("yes 9 1 0 0 5 has 0 view 0", LineFault::BadNumber),
     ("yes 3 256 0 0 5 has 0 view 0", LineFault::BadNumber),
-    ("yes 3 1 256 0 5 has 0 view 0", LineFault::BadNumber),
-    ("yes 3 1 0 256 5 has 0 view 0", LineFault::BadNumber),
     ("yes 3 1 0 0 4294967296 has 0 view 0", LineFault::BadNumber),
     ("yes 3 1 0 0 05 has 0 view 0", LineFault::BadNumber),
     // how far the sender is
     ("yes 3 1 0 0 5", LineFault::BadLine),
-    ("yes 3 1 0 0 5 view 0", LineFault::BadLine),
     ("yes 3 1 0 0 5 view 0 has 0", LineFault::BadLine),
-    ("yes 3 1 0 0 5 had 0 view 0", LineFault::BadLine),
-    ("yes 3 1 0 0 5 has", LineFault::BadLine),
     ("yes 3 1 0 0 5 has 0", LineFault::BadLine),
-    ("yes 3 1 0 0 5 has 0 0 view 0", LineFault::BadLine),
-    ("yes 3 1 0 0 5 has 0 base 0 view 0", LineFault::BadLine),
     ("yes 3 1 0 0 5 has view 0", LineFault::BadNumber),
-    ("yes 3 1 0 0 5 has  view 0", LineFault::BadNumber),
-    ("yes 3 1 0 0 5 has 0 view", LineFault::BadLine),
     ("yes 3 1 0 0 5 has 0 view ", LineFault::BadNumber),
-    ("yes 3 1 0 0 5 has 0 view 0 0", LineFault::BadLine),
     ("yes 3 1 0 0 5 has 0, view 0", LineFault::BadNumber),
-    ("yes 3 1 0 0 5 has ,0 view 0", LineFault::BadNumber),
     ("yes 3 1 0 0 5 has 0,,0 view 0", LineFault::BadNumber),
-    ("yes 3 1 0 0 5 has 00 view 0", LineFault::BadNumber),
     ("yes 3 1 0 0 5 has 1,02 view 0", LineFault::BadNumber),
-    ("yes 3 1 0 0 5 has 0.1 view 0", LineFault::BadNumber),
-    ("yes 3 1 0 0 5 has 0 view x", LineFault::BadNumber),
     ("yes 3 1 0 0 5 has 0 view 4294967296", LineFault::BadNumber),
-    (
-        "yes 3 1 0 0 5 has 0 view 0,4294967296",
-        LineFault::BadNumber,
-    ),
     (
         "yes 3 1 0 0 5 has 0,0,0,0,0,0,0,0,0 view 0",
         LineFault::BadNumber,
     ),
-    (
-        "yes 3 1 0 0 5 has 0 view 1,1,1,1,1,1,1,1,1",
-        LineFault::BadNumber,
-    ),
-    ("offer 3 0 1 0 5 base 1", LineFault::BadLine),
     ("offer 3 0 1 0 5 has 0 view 0", LineFault::BadLine),
-    ("offer 3 0 1 0 5 has 0 view 0 more 1", LineFault::BadLine),
     ("offer 3 0 1 0 5 has 0 view 0 base", LineFault::BadLine),
-    ("offer 3 0 1 0 5 has 0 view 0 base ", LineFault::BadNumber),
-    ("offer 3 0 1 0 5 has 0 view 0 base 1 0", LineFault::BadLine),
     ("offer 3 0 1 0 5 base 1 has 0 view 0", LineFault::BadLine),
-    ("offer 3 0 1 0 5 base 1 0 0 0 0 0 0 0", LineFault::BadLine),
-    (
-        "offer 3 0 1 0 5 has 0 view 0 base 1,0,0,0,0,0,0,0,0",
-        LineFault::BadNumber,
-    ),
-    (
-        "offer 3 0 1 0 5 has 0 view 0 base 4294967296",
-        LineFault::BadNumber,
-    ),
     (
         "no 3 0 1 0 5 has 0 view 0 base 1;0.0 1 inc 5",
-        LineFault::BadNumber,
-    ),
-    (
-        "no 3 0 1 0 5 has 0 view 0 base 1;0.2 65536 inc 5",
         LineFault::BadNumber,
     ),
     (
@@ -329,29 +240,16 @@ const FAULTS: [(&str, LineFault); 91] = [
         "no 3 0 1 0 5 has 0 view 0 base 1;0.2 1 remove 0.1 x",
         LineFault::BadNumber,
     ),
-    ("tell 3 0 1 0 5", LineFault::BadLine),
-    ("tell 3 0 1 0 5;0.1 1 inc 5", LineFault::BadLine),
     ("tell 3 0 1 0 5 has 0 view 0", LineFault::BadLine),
-    (
-        "tell 3 0 1 0 5 has 0 view 0;0.1 1 inc 5",
-        LineFault::BadLine,
-    ),
     ("tell 3 0 1 0 5 has 0 view 0 base 0;", LineFault::BadNumber),
     (
         "tell 3 0 1 0 5 has 0 view 0 base 0;0.2 1 inc 5;0.3 1 add 5",
         LineFault::BadLine,
     ),
-    ("known", LineFault::BadLine),
-    ("known 3 1", LineFault::BadLine),
     ("known 3 1 0", LineFault::BadLine),
-    ("known 3 1 0 has 0", LineFault::BadLine),
     ("known 3 1 0 0 5 has 0 view 0", LineFault::BadLine),
-    ("known 3 1 0 view 0 has 0", LineFault::BadLine),
     ("known 9 1 0 has 0 view 0", LineFault::BadNumber),
-    ("known 3 256 0 has 0 view 0", LineFault::BadNumber),
     ("known 3 1 256 has 0 view 0", LineFault::BadNumber),
-    ("known 3 1 0 has 0 view 00", LineFault::BadNumber),
-    ("known 3 1 0 has 0 view 0 base 0", LineFault::BadLine),
     // it has no parts, so that this is a word
     ("known 3 1 0 has 0 view 0;0.1", LineFault::BadNumber),
 ];
@@ -469,81 +367,17 @@ fn call_of(alloc: Global, want: Want) -> Result<Call, SetError> {
     })
 }
 
-fn say_the_same(mine: &Content, theirs: &Content) -> bool {
-    match (mine, theirs) {
-        (Content::Offer(mine), Content::Offer(theirs)) => mine.same(theirs),
-        (Content::No(mine), Content::No(theirs)) => mine.same(theirs),
-        (Content::Tell(mine), Content::Tell(theirs)) => mine.same(theirs),
-        (Content::Yes, Content::Yes) => true,
-        _ => false,
-    }
+// Whether a call is written as this line. Calls that can be had and have one line are one, by
+// `laws::calls_are_read_back`.
+fn is_written(alloc: Global, call: &Call, line: &[u8]) -> Option<bool> {
+    Some(write(alloc, call).ok()?.as_slice() == line)
 }
 
-fn are_same_parcels(mine: &Parcel, theirs: &Parcel) -> bool {
-    mine.instance == theirs.instance
-        && mine.from == theirs.from
-        && mine.to == theirs.to
-        && mine.ballot == theirs.ballot
-        && say_the_same(&mine.content, &theirs.content)
-}
-
-fn are_same_letters(mine: &Letter, theirs: &Letter) -> bool {
-    mine.replicas == theirs.replicas
-        && mine.progress == theirs.progress
-        && are_same_parcels(&mine.parcel, &theirs.parcel)
-}
-
-fn are_same(mine: &Call, theirs: &Call) -> bool {
-    match (mine, theirs) {
-        (
-            Call::Submit {
-                replica,
-                object,
-                op,
-            },
-            Call::Submit {
-                replica: other_replica,
-                object: other_object,
-                op: other_op,
-            },
-        ) => replica == other_replica && object == other_object && op.same(other_op),
-        (
-            Call::Decide {
-                replica,
-                commit,
-                value,
-            },
-            Call::Decide {
-                replica: other_replica,
-                commit: other_commit,
-                value: other_value,
-            },
-        ) => replica == other_replica && commit == other_commit && value == other_value,
-        (
-            Call::Ask {
-                replica,
-                object,
-                query,
-            },
-            Call::Ask {
-                replica: other_replica,
-                object: other_object,
-                query: other_query,
-            },
-        ) => replica == other_replica && object == other_object && query == other_query,
-        (Call::Tick, Call::Tick) => true,
-        (Call::Receive(mine), Call::Receive(theirs)) => are_same_letters(mine, theirs),
-        (Call::Known(mine), Call::Known(theirs)) => mine == theirs,
-        _ => false,
-    }
-}
-
-// Whether a call is written as this line, and the line read as the call.
+// Whether a call is written as this line, and so is what the line is read as.
 fn is_line(alloc: Global, line: &str, want: Want) -> Option<bool> {
     let call = call_of(alloc, want).ok()?;
-    let written = write(alloc, &call).ok()?;
-    let read = read(alloc, line.as_bytes()).ok()?;
-    Some(written.as_slice() == line.as_bytes() && are_same(&read, &call))
+    let said = read(alloc, line.as_bytes()).ok()?;
+    Some(is_written(alloc, &call, line.as_bytes())? && is_written(alloc, &said, line.as_bytes())?)
 }
 
 fn are_lines(alloc: Global) -> bool {
@@ -556,12 +390,12 @@ fn are_lines(alloc: Global) -> bool {
     true
 }
 
-// Whether a line is read as this call, and the call written otherwise.
+// Whether a line is read as this call, which is written shorter.
 fn is_longer(alloc: Global, line: &str, want: Want) -> Option<bool> {
     let call = call_of(alloc, want).ok()?;
     let written = write(alloc, &call).ok()?;
-    let read = read(alloc, line.as_bytes()).ok()?;
-    Some(written.len() < line.len() && are_same(&read, &call))
+    let said = read(alloc, line.as_bytes()).ok()?;
+    Some(written.len() < line.len() && is_written(alloc, &said, &written)?)
 }
 
 fn are_read(alloc: Global) -> bool {
@@ -607,13 +441,17 @@ fn tell(alloc: Global) -> Option<Letter> {
     })
 }
 
+// Whether a letter goes on this line.
+fn goes_on(alloc: Global, letter: &Letter, line: &[u8]) -> Option<bool> {
+    Some(sent(alloc, letter).ok()?.as_slice() == line)
+}
+
 // A letter comes as it was sent, in its group alone.
 fn comes(alloc: Global) -> Option<bool> {
-    let letter = tell(alloc)?;
-    let line = sent(alloc, &letter).ok()?;
+    let line = sent(alloc, &tell(alloc)?).ok()?;
     let here = came(alloc, 3, &line).ok()??;
     let there = came(alloc, 4, &line).ok()?;
-    Some(are_same_letters(&here, &letter) && there.is_none())
+    Some(goes_on(alloc, &here, &line)? && there.is_none())
 }
 
 fn is_carried(alloc: Global) -> Option<bool> {
@@ -629,7 +467,7 @@ fn is_carried(alloc: Global) -> Option<bool> {
         },
     };
     let came = carried(alloc, &letter).ok()??;
-    Some(are_same_letters(&came, &letter))
+    goes_on(alloc, &came, b"yes 3 1 0 0 5 has 0 view 0")
 }
 
 #[test]

@@ -61,40 +61,23 @@ const OPEN: &str = "state 0 view 0 votes 1\
 |cap 9 has 0 ballot 0 0 open mine 0 reported 0 0 0 0 0 0 0 0 learnt none 0 yes";
 
 // Texts that say no replica's state.
-const NONE: [&str; 33] = [
+const NONE: [&str; 16] = [
     "",
-    "state 0 view 0 votes 1",
     "state 0 view 0 votes 1|",
     "stale 0 view 0 votes 1|cap 9 has 0 ballot 0 0 shut mine 0 reported 0 0 0 0 0 0 0 0 learnt none",
-    "state 1 view 0 votes 1|cap 9 has 0 ballot 0 0 shut mine 0 reported 0 0 0 0 0 0 0 0 learnt none",
     "state 256 view 0 votes 1|cap 9 has 0 ballot 0 0 shut mine 0 reported 0 0 0 0 0 0 0 0 learnt none",
     "state 0 view 1 votes 1|cap 9 has 0 ballot 0 0 shut mine 0 reported 0 0 0 0 0 0 0 0 learnt none",
-    "state 0 view 0 votes|cap 9 has 0 ballot 0 0 shut mine 0 reported 0 0 0 0 0 0 0 0 learnt none",
     "state 0 view 0 votes 0|cap 9 has 0 ballot 0 0 shut mine 0 reported 0 0 0 0 0 0 0 0 learnt none",
-    "state 0 view 0 votes 1001|cap 9 has 0 ballot 0 0 shut mine 0 reported 0 0 0 0 0 0 0 0 learnt none",
-    "state 0 view 0 votes 1 1 1 1 1 1 1 1 1|cap 9 has 0 ballot 0 0 shut mine 0 reported 0 0 0 0 0 0 0 0 learnt none",
-    "state 0 votes 1|cap 9 has 0 ballot 0 0 shut mine 0 reported 0 0 0 0 0 0 0 0 learnt none",
-    "state 0 view 0 votes 1|cup 9 has 0 ballot 0 0 shut mine 0 reported 0 0 0 0 0 0 0 0 learnt none",
     "state 0 view 0 votes 1|cap 1000001 has 0 ballot 0 0 shut mine 0 reported 0 0 0 0 0 0 0 0 learnt none",
-    "state 0 view 0 votes 1|cap 09 has 0 ballot 0 0 shut mine 0 reported 0 0 0 0 0 0 0 0 learnt none",
     "state 0 view 0 votes 1|cap 9 has 1 ballot 0 0 shut mine 0 reported 0 0 0 0 0 0 0 0 learnt none",
     "state 0 view 0 votes 1|cap 9 has 0 ballot 8000001 0 shut mine 0 reported 0 0 0 0 0 0 0 0 learnt none",
-    "state 0 view 0 votes 1|cap 9 has 0 ballot 0 1 shut mine 0 reported 0 0 0 0 0 0 0 0 learnt none",
     "state 0 view 0 votes 1|cap 9 has 0 ballot 0 0 closed mine 0 reported 0 0 0 0 0 0 0 0 learnt none",
-    "state 0 view 0 votes 1|cap 9 has 0 ballot 0 0 shut mine 1 reported 0 0 0 0 0 0 0 0 learnt none",
-    "state 0 view 0 votes 1|cap 9 has 0 ballot 0 0 shut mine 0 reported 0 0 0 0 0 0 0 learnt none",
     "state 0 view 0 votes 1|cap 9 has 0 ballot 0 0 shut mine 0 reported 0 0 0 0 0 0 0 0,x learnt none",
-    "state 0 view 0 votes 1|cap 9 has 0 ballot 0 0 shut mine 0 reported 0 0 0 0 0 0 0 0 learnt",
     "state 0 view 0 votes 1|cap 9 has 0 ballot 0 0 shut mine 0 reported 0 0 0 0 0 0 0 0 learnt 1",
-    "state 0 view 0 votes 1|cap 9 has 0 ballot 0 0 shut mine 0 reported 0 0 0 0 0 0 0 0 learnt none 0",
     "state 0 view 0 votes 1|cap 9 has 0 ballot 0 0 shut mine 0 reported 0 0 0 0 0 0 0 0 learnt none 0 yes",
-    "state 0 view 0 votes 1|cap 9 has 0 ballot 0 0 open mine 0 reported 0 0 0 0 0 0 0 0 learnt none 1 yes",
-    "state 0 view 0 votes 1|cap 9 has 0 ballot 0 0 open mine 0 reported 0 0 0 0 0 0 0 0 learnt none 0 1",
     "state 0 view 0 votes 1|cap 9 has 0 ballot 0 0 open mine 0 reported 0 0 0 0 0 0 0 0 learnt none 0 yes 0 yes",
-    "state 0 view 0 votes 1|cap 9 has 0 ballot 0 0 shut mine 1 reported 0 0 0 0 0 0 0 0 learnt none;0.1 1 inc 5",
     "state 0 view 0 votes 1|cap 9 has 0 ballot 0 0 shut mine 0 reported 0 0 0 0 0 0 0 0 learnt none;0.2 1 inc 5",
     "state 0 view 0 votes 1|cap 9 has 0 ballot 0 0 shut mine 0 reported 0 0 0 0 0 0 0 0 learnt none;0.1 1 inc",
-    "state 0 view 0 votes 1|cap 9 has 0 ballot 0 0 shut mine 0 reported 0 0 0 0 0 0 0 0 learnt none|",
 ];
 
 // A replica's state, but no node's: an instance with no other beside it.

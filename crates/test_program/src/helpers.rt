@@ -1,12 +1,10 @@
 // What the tests ask of a play. Each helper calls again where memory was refused. A play comes to
 // plain values, since a function that keeps streams and answers takes minutes to prove.
-use crate::cuts::Told;
-use crate::shelves::{ByNumber, eight_shelves};
 use crate::streams::{
     End, Filled, Narrow, Slow, filled_reader, narrow_writer, slow_reader, wide_writer,
 };
 use la_cli::{PlayFault, play_stream};
-use la_object::{Counter, Replicated};
+use la_object::Counter;
 use la_world::empty_shelves;
 use std::alloc::Global;
 use std::fmt::Display;
@@ -34,14 +32,9 @@ const STARVED: Went = Went {
     just: true,
 };
 
-// Plays from a reader to a writer, with shelves of such objects.
-fn play_with<B: ByNumber, R: Read>(
-    alloc: Global,
-    reader: &mut R,
-    writer: Narrow,
-    text: &[u8],
-) -> Went {
-    let Ok(shelves) = eight_shelves::<B>(alloc) else {
+// Plays from a reader to a writer. No script that is played asks an object.
+fn play<R: Read>(alloc: Global, reader: &mut R, writer: Narrow, text: &[u8]) -> Went {
+    let Ok(shelves) = empty_shelves::<Counter>(alloc, 8) else {
         return STARVED;
     };
     let mut writer = writer;
@@ -49,29 +42,6 @@ fn play_with<B: ByNumber, R: Read>(
     Went {
         fault,
         just: writer.taken.as_slice() == text,
-    }
-}
-
-// Plays from a reader to a writer, with the program's objects.
-fn play<R: Read>(alloc: Global, reader: &mut R, writer: Narrow, text: &[u8]) -> Went {
-    play_with::<Box<dyn Replicated + Send>, R>(alloc, reader, writer, text)
-}
-
-// Plays from a reader of known bytes with so many shelves without objects.
-fn play_on_shelves(alloc: Global, script: &[u8], count: u8) -> Option<PlayFault> {
-    let Ok(shelves) = empty_shelves::<Counter>(alloc, count) else {
-        return STARVED.fault;
-    };
-    let (mut reader, mut writer) = (script, wide_writer(alloc));
-    let fault = play_stream(alloc, &mut reader, &mut writer, shelves).err();
-    if writer.taken.is_empty() { fault } else { None }
-}
-
-/// The fault of a play with so many shelves, which writes nothing then, or `None`.
-pub fn fault_on_shelves(alloc: Global, script: &[u8], count: u8) -> Option<PlayFault> {
-    match play_on_shelves(alloc, script, count) {
-        Some(PlayFault::Memory) => play_on_shelves(alloc, script, count),
-        fault => fault,
     }
 }
 
@@ -96,52 +66,6 @@ pub fn ends_so(
         return is(play_slow(alloc, script, room, end, text), fault);
     }
     is(went, fault)
-}
-
-// Plays from a reader of known bytes, of which none may be left after a play.
-fn play_known(alloc: Global, script: &[u8], text: &[u8]) -> Went {
-    let mut reader = script;
-    let went = play(alloc, &mut reader, wide_writer(alloc), text);
-    Went {
-        fault: went.fault,
-        just: went.just && reader.is_empty(),
-    }
-}
-
-/// Whether the script is played to this text, by a reader of known bytes.
-pub fn gives(alloc: Global, script: &[u8], text: &[u8]) -> bool {
-    let went = play_known(alloc, script, text);
-    if wants_memory(went) {
-        return is(play_known(alloc, script, text), None);
-    }
-    is(went, None)
-}
-
-/// The refusal of a script, or `None`. Where it is refused, nothing may be written.
-fn fault_of(alloc: Global, script: &[u8]) -> Option<PlayFault> {
-    let went = play_slow(alloc, script, usize::MAX, End::Fails, b"");
-    let went = if wants_memory(went) {
-        play_slow(alloc, script, usize::MAX, End::Fails, b"")
-    } else {
-        went
-    };
-    if went.just { went.fault } else { None }
-}
-
-/// Whether the script has a fault that is told so.
-pub fn has_fault(alloc: Global, script: &[u8], told: &str) -> bool {
-    match fault_of(alloc, script) {
-        Some(fault) => shows(alloc, &fault, told),
-        None => false,
-    }
-}
-
-/// Whether this is what is told of a script.
-pub fn is_told(alloc: Global, script: &[u8], told: Told) -> bool {
-    match told {
-        Told::Fault(text) => has_fault(alloc, script, text),
-        Told::Report(text) => gives(alloc, script, text.as_bytes()),
-    }
 }
 
 // A play that the read of this number may refuse, and how many reads it made.

@@ -1,19 +1,17 @@
-//! Tests of the program, of what no contract says: the worked scripts over memory, command lines,
-//! and readers and writers that fail. They stand here, apart from the program, so that it is proved
-//! once. They pass with every single allocation failing too: their helpers call again.
+//! Tests of what `lattice` and `lattice call` do over streams, of what no contract says: readers and writers that fail,
+//! and ends. They stand here, apart from the program, so that it is proved once. They pass with every single allocation
+//! failing too: their helpers call again.
 #![tactic(auto)]
 
 #[cfg(test)]
-mod cuts;
+mod calls;
 #[cfg(test)]
 mod helpers;
 #[cfg(test)]
 mod plays;
 #[cfg(test)]
-mod shelves;
+mod rows;
 #[cfg(test)]
 mod streams;
 #[cfg(test)]
 mod texts;
-#[cfg(test)]
-mod words;

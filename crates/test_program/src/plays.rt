@@ -1,65 +1,10 @@
 // Plays of scripts, over readers and writers that fail.
-use crate::cuts::{CUTS, FIRST_REPORT, FIRST_SCRIPT};
-use crate::helpers::{
-    ends_so, fault_on_shelves, fills_so, gives, has_fault, is_told, read_fails_at, takes_reads,
-};
+use crate::helpers::{ends_so, fills_so, read_fails_at, takes_reads};
+use crate::rows::{EMPTY, FIRST_RUN, LONG_SETS};
 use crate::streams::End;
 use la_cli::PlayFault;
 use la_cli::laws::the_limit_is_a_number;
 use la_io::LIMIT;
-use std::alloc::Global;
-use test_world::{EMPTY, FAULTS, FIRST_RUN, LONG_SETS, MORE_ROWS, ROWS, Row};
-
-// Whether what is written of a script is the text of its row.
-fn comes_to_its_text(alloc: Global, row: &Row) -> bool {
-    gives(alloc, row.script.as_bytes(), row.told.as_bytes())
-}
-
-#[test]
-fn worked_scripts_have_these_texts(rt: HostRuntime) {
-    for row in &ROWS {
-        assert!(rt; comes_to_its_text(rt.alloc(), row), "{}", row.name);
-    }
-}
-
-#[test]
-fn more_worked_scripts_have_these_texts(rt: HostRuntime) {
-    for row in &MORE_ROWS {
-        assert!(rt; comes_to_its_text(rt.alloc(), row), "{}", row.name);
-    }
-}
-
-#[test]
-fn worked_scripts_have_these_faults(rt: HostRuntime) {
-    for row in &FAULTS {
-        let is = has_fault(rt.alloc(), row.script.as_bytes(), row.told);
-        assert!(rt; is, "{}", row.name);
-    }
-}
-
-#[test]
-fn there_are_to_be_eight_shelves(rt: HostRuntime) {
-    let script = FIRST_SCRIPT.as_bytes();
-    for count in [0, 3, 7, 9] {
-        let is = fault_on_shelves(rt.alloc(), script, count) == Some(PlayFault::BadConfig);
-        assert!(rt; is, "{count}");
-    }
-    assert!(rt; fault_on_shelves(rt.alloc(), script, 8).is_none());
-}
-
-#[test]
-fn a_script_may_be_cut_anywhere(rt: HostRuntime) {
-    let script = FIRST_SCRIPT.as_bytes();
-    let mut first = 0;
-    for cut in &CUTS {
-        for len in first..=cut.last {
-            let left = &script[..len.min(script.len())];
-            assert!(rt; is_told(rt.alloc(), left, cut.told), "{len}");
-        }
-        first = cut.last.saturating_add(1);
-    }
-    assert!(rt; first == script.len().saturating_add(1));
-}
 
 #[test]
 fn a_writer_that_refuses_once_has_the_front_of_the_text(rt: HostRuntime) {
@@ -81,8 +26,8 @@ fn a_writer_that_refuses_once_has_the_front_of_the_text(rt: HostRuntime) {
 
 #[test]
 fn a_reader_may_fail_at_any_read(rt: HostRuntime) {
-    let script = FIRST_SCRIPT.as_bytes();
-    for each in [1, 2, 10, 94, 95, 96] {
+    let script = FIRST_RUN.script.as_bytes();
+    for each in [1, 2, 10, 165, 166, 167] {
         let needed = script.len().div_ceil(each).saturating_add(1);
         for number in 1..=needed {
             assert!(rt;
@@ -97,8 +42,8 @@ fn a_reader_may_fail_at_any_read(rt: HostRuntime) {
 
 #[test]
 fn bytes_may_be_parted_in_any_way(rt: HostRuntime) {
-    let script = FIRST_SCRIPT.as_bytes();
-    let text = FIRST_REPORT.as_bytes();
+    let script = FIRST_RUN.script.as_bytes();
+    let text = FIRST_RUN.told.as_bytes();
     for each in 1..100 {
         let needed = script.len().div_ceil(each).saturating_add(1);
         assert!(rt;
@@ -124,11 +69,8 @@ fn a_script_may_have_16777216_bytes(rt: HostRuntime) {
 #[test]
 fn reading_stops_one_byte_past_the_limit(rt: HostRuntime) {
     let fault = Some(PlayFault::TooLong);
-    for more in [1, 2, 100_000] {
-        for each in [1, 8192, usize::MAX] {
-            let unread = more - 1;
-            let is = fills_so(rt.alloc(), LIMIT + more, each, b"", fault, unread);
-            assert!(rt; is, "{more} {each}");
-        }
+    for each in [1, 8192, usize::MAX] {
+        let is = fills_so(rt.alloc(), LIMIT + 2, each, b"", fault, 1);
+        assert!(rt; is, "{each}");
     }
 }

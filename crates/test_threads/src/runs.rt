@@ -1,5 +1,4 @@
 // Whole runs: a thread a member.
-mod config;
 mod helpers;
 mod refusals;
 mod shelves;

@@ -1,7 +1,9 @@
-// la_embed: a host of a group of one, from its start on, whose letters to itself go as lines.
+// la_embed: a host of a group of one, from its start on, whose letters to itself go as lines; and one over a journal,
+// in three lives.
 use crate::holds::holds;
 use la_durable::NodeError;
-use la_embed::{AnyObject, Embedded, Host, HostError};
+use la_embed::{AnyObject, Embedded, Host, HostError, Unrecovered};
+use la_journal::Unplayed;
 use la_node::{Config, WorldError};
 use la_object::{Answer, Kind, Query, ShelfError};
 use la_proposer::Votes;
@@ -72,7 +74,8 @@ fn propose(host: &mut Alone) -> Result<usize, AllocError> {
 // Whether what waits is sent once more.
 fn send_again(host: &mut Alone) -> Result<usize, AllocError> {
     host.again()?;
-    Ok(if host.next_mail().is_some() { 1 } else { WRONG })
+    let sends = host.is_kept() && host.next_mail().is_some();
+    Ok(if sends { 1 } else { WRONG })
 }
 
 fn receive(host: &mut Alone, line: &[u8]) -> Result<usize, AllocError> {
@@ -84,6 +87,9 @@ fn receive(host: &mut Alone, line: &[u8]) -> Result<usize, AllocError> {
 
 // Hands the host its own line that waits first, and answers whether there was one.
 fn hand_back(host: &mut Alone, alloc: Global) -> Result<bool, AllocError> {
+    if !host.is_kept() {
+        return Ok(false);
+    }
     let Some(outgoing) = host.next_mail() else {
         return Ok(false);
     };
@@ -94,18 +100,30 @@ fn hand_back(host: &mut Alone, alloc: Global) -> Result<bool, AllocError> {
     Ok(true)
 }
 
+// How many updates its view has.
+fn seen(host: &Alone) -> usize {
+    if host.is_kept() {
+        host.view().len()
+    } else {
+        WRONG
+    }
+}
+
 // What it sends itself, until nothing waits: how many updates were learnt.
 fn settle(host: &mut Alone, alloc: Global) -> Result<usize, AllocError> {
     host.again()?;
     for _ in 0..16 {
         if !hand_back(host, alloc)? {
-            return Ok(host.view().len());
+            return Ok(seen(host));
         }
     }
     Ok(WRONG)
 }
 
 fn ask(host: &mut Alone) -> Result<usize, AllocError> {
+    if !host.is_kept() {
+        return Ok(WRONG);
+    }
     match host.ask(3, &Query::Items) {
         Ok(Answer::Items(it)) if it.all() == [7].as_slice() => Ok(7),
         Ok(_) => Ok(WRONG),
@@ -133,7 +151,7 @@ fn answer_of(host: &mut Alone, alloc: Global, which: Call) -> Result<usize, Allo
 }
 
 fn stands(host: &Alone, stand: &Stand) -> bool {
-    host.view().len() == stand.0 && host.submitted() == stand.1
+    host.is_kept() && host.view().len() == stand.0 && host.submitted() == stand.1
 }
 
 fn step(host: &mut Alone, alloc: Global, row: &(Call, usize, Stand), before: &Stand) -> Came {
@@ -179,9 +197,94 @@ fn embedded_of(alloc: Global) -> Came {
     }
 }
 
+// Whether no host was made for want of memory.
+fn is_for_memory(refused: &Unrecovered) -> bool {
+    matches!(
+        refused,
+        Unrecovered::Memory
+            | Unrecovered::Group(WorldError::Memory)
+            | Unrecovered::Journal(Unplayed::Memory | Unplayed::Refused(_, NodeError::Memory))
+    )
+}
+
+// A host by what is found in its journal, which is cut as it says.
+fn recovered(alloc: Global, file: &mut Vec<u8>) -> Result<Option<Alone>, AllocError> {
+    match Host::recover(alloc, group(), 0, file.to_vec(alloc)?) {
+        Ok((host, keep)) => {
+            file.truncate(keep);
+            Ok(Some(host))
+        }
+        Err(refused) if is_for_memory(&refused) => Err(AllocError),
+        Err(_) => Ok(None),
+    }
+}
+
+// Puts the next record behind the journal's bytes, and answers whether all is kept then.
+fn write(host: &mut Alone, file: &mut Vec<u8>) -> Result<bool, AllocError> {
+    host.make_record();
+    file.extend_from_slice(host.record())?;
+    host.synced();
+    Ok(host.is_kept())
+}
+
+// A life in which so many were submitted before: one more is, goes to the disk, and is learnt, as is what it sends itself.
+// After a refusal of the submission the host is as before.
+fn life(alloc: Global, file: &mut Vec<u8>, before: u32) -> Result<bool, AllocError> {
+    let Some(mut host) = recovered(alloc, file)? else {
+        return Ok(false);
+    };
+    if !write(&mut host, file)? || !stands(&host, &(before as usize, before)) {
+        return Ok(false);
+    }
+    let Ok(number) = host.submit(3, Op::Put(7)) else {
+        return if stands(&host, &(before as usize, before)) {
+            Err(AllocError)
+        } else {
+            Ok(false)
+        };
+    };
+    let told_early = host.is_kept();
+    for _ in 0..8 {
+        host.bring_own();
+    }
+    host.again()?;
+    for _ in 0..8 {
+        host.bring_own();
+    }
+    let kept = write(&mut host, file)?;
+    let next = number.checked_sub(1) == Some(before);
+    Ok(!told_early && kept && next && stands(&host, &(number as usize, number)))
+}
+
+fn lives(alloc: Global) -> Result<bool, AllocError> {
+    let mut file = Vec::new(alloc);
+    for before in 0..3 {
+        if !life(alloc, &mut file, before)? {
+            return Ok(false);
+        }
+    }
+    Ok(true)
+}
+
+fn journaled(alloc: Global) -> Came {
+    match lives(alloc) {
+        Ok(right) => Some(right),
+        Err(AllocError) => refused(true),
+    }
+}
+
+fn embedded_again(alloc: Global) -> Came {
+    match Embedded::recover(alloc, group(), 0, Vec::new(alloc)) {
+        Ok((node, keep)) => Some(keep == 0 && !node.host.is_kept() && !node.handed),
+        Err(why) => refused(is_for_memory(&why)),
+    }
+}
+
 #[test]
 fn all_of_hosts(rt: HostRuntime) {
     let alloc = rt.alloc();
     holds(&rt, again!(alloc, host_of(alloc)));
     holds(&rt, again!(alloc, embedded_of(alloc)));
+    holds(&rt, again!(alloc, journaled(alloc)));
+    holds(&rt, again!(alloc, embedded_again(alloc)));
 }

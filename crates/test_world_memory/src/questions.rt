@@ -340,7 +340,7 @@ fn status(counts: Counts) -> NodeStatus {
         accepted: counts,
         view: Counts::zero(),
     };
-    known.hear(2, progress);
+    known.hear(2, progress, Progress::none());
     let mut tally = Tally::none();
     tally.received = Kinds {
         offers: 1,

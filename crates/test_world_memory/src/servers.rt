@@ -37,7 +37,7 @@ struct Row {
     later: &'static str,
 }
 
-const ROWS: [Row; 18] = [
+const ROWS: [Row; 19] = [
     Row {
         journal: "",
         line: "submit 0 3 put 7 @a.1\n",
@@ -77,7 +77,7 @@ const ROWS: [Row; 18] = [
         text: ANSWER,
         later: "",
     },
-    // a tell that is no news, one with a gap, one over what it has not; and how far another is
+    // a tell that is no news, one with a gap, one over what it has not, and so an offer; and how far another is
     Row {
         journal: ROUND,
         line: "tell 1 0 0 0 1 has 1 view 1 base 0;0.1 3 put 7\n",
@@ -96,7 +96,14 @@ const ROWS: [Row; 18] = [
         journal: ROUND,
         line: "tell 1 0 0 0 2 has 3 view 3 base 2;0.3 3 put 8\n",
         kept: "",
-        text: "# r0 refused 1 NoBase\n",
+        text: "known 1 0 0 has 1 view 1\n",
+        later: "",
+    },
+    Row {
+        journal: ROUND,
+        line: "offer 1 0 0 0 2 has 3 view 3 base 2;0.3 3 put 8\n",
+        kept: "",
+        text: "known 1 0 0 has 1 view 1\n",
         later: "",
     },
     Row {

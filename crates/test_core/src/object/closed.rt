@@ -15,7 +15,7 @@ const PUT_AND_REMOVED: &[Row] = &[
     (1, 0, 1, Does::Put(7)),
     (1, 0, 2, Does::Put(8)),
     (2, 0, 3, Does::Put(9)),
-    (1, 1, 1, Does::RemoveTags(&[(0, 1)])),
+    (1, 1, 1, Does::Remove(&[(0, 1)])),
 ];
 
 fn adds(shelf: &mut Shelved, alloc: Global) -> bool {

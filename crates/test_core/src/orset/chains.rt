@@ -1,4 +1,4 @@
-// Chains: the newest first, dropped once each, and dropped whatever their length.
+// Chains: each value is dropped once, whatever their length.
 use crate::holds::holds;
 use la_orset::Chain;
 use std::alloc::Global;
@@ -22,27 +22,6 @@ fn chain_to(rt: &impl Abort, alloc: Global, last: u32) -> Chain<u32> {
         push(rt, alloc, &mut chain, below + 1);
     }
     chain
-}
-
-fn has_values(chain: &Chain<u32>, values: &[u32]) -> bool {
-    for (place, value) in values.iter().enumerate() {
-        if chain.nth(place) != Some(value) {
-            return false;
-        }
-    }
-    chain.len() == values.len() && chain.nth(values.len()).is_none()
-}
-
-fn the_newest_comes_first(rt: &impl Abort, alloc: Global) {
-    let three = chain_to(rt, alloc, 3);
-    holds(rt, "the newest", three.first() == Some(&3));
-    holds(rt, "three values", has_values(&three, &[3, 2, 1]));
-}
-
-fn a_new_chain_is_empty(rt: &impl Abort) {
-    let none = Chain::<u32>::new();
-    holds(rt, "no newest", none.first().is_none());
-    holds(rt, "no value", has_values(&none, &[]));
 }
 
 fn a_million_nodes_are_dropped(rt: &impl Abort, alloc: Global) {
@@ -87,8 +66,6 @@ fn values_are_dropped_once(rt: &impl Abort, alloc: Global) {
 
 #[test]
 fn chains(rt: HostRuntime) {
-    the_newest_comes_first(&rt, rt.alloc());
-    a_new_chain_is_empty(&rt);
     a_million_nodes_are_dropped(&rt, rt.alloc());
     values_are_dropped_once(&rt, rt.alloc());
 }

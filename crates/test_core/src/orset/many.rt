@@ -97,7 +97,7 @@ fn a_set_of_many_elements(rt: HostRuntime) {
     let set = updates(&rt, rt.alloc());
     let mut shelf = Shelf::new(rt.alloc());
     holds(&rt, "an addition", adds_set(rt.alloc(), &mut shelf));
-    let absorbed = absorb(&rt, &mut shelf, &set);
+    let absorbed = absorb(&mut shelf, &set);
     holds(&rt, "all are absorbed", absorbed == Ok(150_000));
     holds(&rt, "so many are left", has_size(&shelf));
     let listed = has_items(&shelf) || has_items(&shelf);

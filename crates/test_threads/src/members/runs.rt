@@ -1,8 +1,7 @@
 // Updates of members, as tables.
 use super::firsts::{LEARNS, REFINES, RESTS, RESUMES};
 use super::steps::{Comes, Does, Has, Lets, Play, Step, plays};
-use la_proposer::Votes;
-use la_runner::{Group, RunnerError};
+use la_runner::RunnerError;
 
 const NONE: [bool; 3] = [false, false, false];
 
@@ -183,22 +182,4 @@ fn updates_are_learnt(rt: HostRuntime) {
     for play in &PLAYS {
         assert!(rt; plays(&rt, rt.alloc(), play), "{}", play.name);
     }
-}
-
-fn is_refused(rt: &HostRuntime, replicas: u8, commits: u8, cap: u32, votes: Votes) -> bool {
-    matches!(
-        Group::new(rt.alloc(), replicas, commits, cap, votes),
-        Err(RunnerError::BadConfig)
-    )
-}
-
-#[test]
-fn a_group_is_within_its_ranges(rt: HostRuntime) {
-    let three = Votes::one_each(3);
-    assert!(rt; is_refused(&rt, 9, 0, 1, Votes::one_each(8)));
-    assert!(rt; is_refused(&rt, 9, 0, 1, three) && is_refused(&rt, 2, 0, 1, three));
-    assert!(rt; is_refused(&rt, 3, 17, 1, three) && is_refused(&rt, 3, 0, 0, three));
-    assert!(rt;
-        is_refused(&rt, 3, 0, 1_000_001, three) && !is_refused(&rt, 3, 16, 1_000_000, three)
-    );
 }

@@ -85,11 +85,3 @@ pub fn grow(set: &mut UpdateSet, replica: u8, number: u32) -> bool {
 pub fn is_yes(reply: &Result<Reply, AcceptorError>) -> bool {
     matches!(reply, Ok(Reply::Yes))
 }
-
-/// The set of a reply that refuses.
-pub fn refused(reply: &Result<Reply, AcceptorError>) -> Option<&UpdateSet> {
-    match reply {
-        Ok(Reply::No(all)) => Some(all),
-        _ => None,
-    }
-}

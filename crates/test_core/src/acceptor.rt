@@ -1,2 +1,0 @@
-// la_acceptor: runs as tables.
-mod runs;

@@ -1,2 +1,0 @@
-// la_commit: participants' steps as tables.
-mod steps;
