@@ -2,164 +2,174 @@
 from __future__ import annotations
 
 from oracle.report import Learnt, set_text
-from oracle.run import Message, Run
+from oracle.run import Message
 from oracle.script import Ask
 
 from . import svg
-from .captions import LEADING
-from .layout import DOWN, LOOP_LABEL, NEAR, STUB, UP, Column, lay_out
+from .captions import LEADING, MARGIN
+from .layout import HEADER, LINE_START, LOOP_SHIFT, LOOP_STUB, STUB, STUB_SHIFT, Column, Row, direction, lay_out
 from .legend import draw_legend
+from .nodes import AnyRun, Killed, Said, Started
 from .shapes import (
-    Point, arrow, arrow_heads, cross, loop, lost_line, mark, radius, style_sheet, towards,
+    Point, arrow, arrow_heads, cross, going_on, learns, loop, lost_line, mark, radius, ring, style_sheet, towards,
 )
 
-LEAST_WIDTH = 480.0
 CLEARANCE = 16
 BEND = 22
 
 
-def title_of(run: Run) -> str:
+def title_of(run: AnyRun) -> str:
     """What the picture shows."""
     return f"A run of {run.group.replicas} replicas with {len(run.moments)} events"
 
 
-def description_of(run: Run) -> str:
+def description_of(run: AnyRun) -> str:
     """What is learnt where, for a reader who does not see the picture."""
     learnt = []
     for moment in run.moments:
-        if isinstance(moment.outcome, Learnt):
+        where = f"event {moment.number}: replica {moment.replica}"
+        if isinstance(moment.event, Killed | Started):
+            learnt.append(f"{where} is {'killed' if isinstance(moment.event, Killed) else 'started again'}")
+        elif isinstance(moment.outcome, Said) and learns(moment):
+            learnt.append(f"{where} learns a set")
+        elif isinstance(moment.outcome, Learnt):
             ballot, decision = moment.outcome.ballot, moment.outcome.decision
             what = set_text(ballot.updates) + (f" in i{ballot.instance}" if ballot.instance else "")
             what += f" and returns {decision}" if decision else ""
-            learnt.append(f"event {moment.number}: replica {moment.replica} learns {what}")
+            learnt.append(f"{where} learns {what}")
     return "; ".join(learnt) if learnt else "nothing is learnt"
 
 
 class Picture:
     """Draws the parts of a run where its layout puts them."""
 
-    def __init__(self, run: Run) -> None:
+    def __init__(self, run: AnyRun) -> None:
         self.run = run
         self.layout = lay_out(run)
 
-    def point(self, column: Column) -> Point:
-        """Where an event's mark stands."""
-        return column.x, self.layout.rows[column.row]
+    # Messages
 
-    def bend(self, start: Point, end: Point) -> float:
+    def bend(self, row: Row, start: Point, end: Point) -> float:
         """How far an arrow must swerve so as not to run through a mark between its ends."""
-        for column in self.layout.columns:
-            x, y = self.point(column)
+        for column in row.columns:
+            x, y = point(row, column)
             if min(start[1], end[1]) < y < max(start[1], end[1]):
                 passes = start[0] + (end[0] - start[0]) * (y - start[1]) / (end[1] - start[1])
                 if abs(passes - x) < CLEARANCE:
                     return BEND if passes > x else -BEND
         return 0
 
-    def delivery(self, message: Message, column: Column) -> str:
-        """The arrow of a message that is delivered at an event."""
-        source = self.layout.at(message.sent_at)
-        start, end = self.point(source), self.point(column)
+    def delivery(self, row: Row, message: Message, column: Column) -> str:
+        """The arrow of a message that is delivered at an event, in the row where it was sent."""
+        source = row.columns[message.sent_at - row.columns[0].moment.number]
+        start, end = point(row, source), point(row, column)
         if message.source == message.target:
             return loop(message.kind, start, end, radius(column.moment))
         first = towards(start, end, radius(source.moment))
         last = towards(end, start, radius(column.moment))
-        return arrow(message.kind, first, last, self.bend(start, end))
+        return arrow(message.kind, first, last, self.bend(row, start, end))
 
-    def lost(self, column: Column, side: int) -> list[str]:
-        """The lost messages of an event on one side: dotted, cut short, and named."""
-        parts, (x, y) = [], self.point(column)
-        for message, shift in column.crosses(side):
-            end = x + shift, y + side * STUB
-            start = towards((x, y), end, radius(column.moment))
-            parts += [lost_line(message.kind, start, end), cross(*end)]
-            label = end[1] + (17 if side == DOWN else -9)
-            parts.append(svg.text(end[0], label, str(message), message.kind.value))
-        return parts
+    def entering(self, row: Row, message: Message, column: Column) -> str:
+        """The last part of a message that was sent in a row above, behind a ring."""
+        end = point(row, column)
+        start = cut_point(end, -STUB_SHIFT, direction(message.target, message.source))
+        return arrow(message.kind, start, towards(end, start, radius(column.moment))) + ring(message.kind, *start)
 
-    def lost_loop(self, column: Column) -> list[str]:
-        """The lost message of a replica to itself."""
-        message, (x, y) = column.lost_to_itself(), self.point(column)
+    def arrival(self, row: Row, column: Column) -> str:
+        """What leads to an event, if anything does."""
+        message = column.moment.message
         if message is None:
-            return []
-        end = x + LOOP_LABEL - 8, y - 11
-        label = svg.text(x + LOOP_LABEL, y - 7, str(message), message.kind.value, "start")
-        return [lost_line(message.kind, (x, y), end), cross(*end), label]
+            return ""
+        return self.entering(row, message, column) if column.enters else self.delivery(row, message, column)
 
-    def caption(self, column: Column) -> list[str]:
-        """The lines of text beside an event."""
-        x, y = self.point(column)
-        first = y + NEAR + 4
-        if column.side == UP:
-            first = y - NEAR - LEADING * (len(column.caption) - 1)
-        return [
-            svg.text(x, first + LEADING * place, text, style)
-            for place, (text, style) in enumerate(column.caption)
-        ]
-
-    def header(self) -> list[str]:
-        """The events' numbers, and a guide from each to its mark."""
-        parts = [svg.text(12, 24, "event", "number", "start")]
-        for column in self.layout.columns:
-            parts.append(svg.line(column.x, 32, column.x, self.point(column)[1], "guide"))
-            parts.append(svg.text(column.x, 24, str(column.moment.number), "number"))
+    def cuts(self, row: Row, column: Column) -> list[str]:
+        """The first parts of the messages that do not arrive in this row: a ring goes on below, a cross never."""
+        parts, start = [], point(row, column)
+        for side in (-1, 0, 1):
+            for message, shift in column.cuts(side):
+                end = cut_point(start, shift, side)
+                first = towards(start, end, radius(column.moment))
+                is_lost = message in column.lost
+                parts.append((lost_line if is_lost else going_on)(message.kind, first, end))
+                parts.append(cross(*end) if is_lost else ring(message.kind, *end))
         return parts
 
-    def replica_lines(self) -> list[str]:
-        """A line for each replica, with its name before it and its last view behind it."""
-        parts, right = [], self.layout.right
-        for replica, view in enumerate(self.layout.views):
-            y = self.layout.rows[replica]
-            parts.append(svg.text(12, y + 4, f"replica {replica}", "name", "start"))
-            parts.append(svg.line(82, y, right, y, "time"))
+    # Rows
+
+    def captions(self, row: Row) -> list[str]:
+        """The events' numbers, what is written under each, and a guide from there to its mark."""
+        parts = [svg.text(MARGIN, row.top + HEADER, "event", "number", "start")]
+        for column in row.columns:
+            x, y = point(row, column)
+            end = row.top + HEADER + LEADING * len(column.caption)
+            parts.append(svg.line(x, end + 6, x, y, "guide"))
+            parts.append(svg.text(x, row.top + HEADER, str(column.moment.number), "number"))
+            for place, (text, style) in enumerate(column.caption, 1):
+                parts.append(svg.text(x, row.top + HEADER + LEADING * place, text, style))
+        return parts
+
+    def spans(self, row: Row, replica: int) -> list[tuple[float, float]]:
+        """From where to where a replica runs in a row: all along, but between a kill and a start."""
+        first = row.columns[0].moment.number if row.columns else 0
+        turns = [it for it in self.run.moments if it.replica == replica and isinstance(it.event, Killed | Started)]
+        before = [it for it in turns if it.number < first]
+        edges = [] if before and isinstance(before[-1].event, Killed) else [LINE_START]
+        edges += [column.x for column in row.columns if column.moment in turns]
+        return list(zip(edges[::2], [*edges[1::2], row.right]))
+
+    def lines(self, row: Row) -> list[str]:
+        """A line for each replica, with its name before it."""
+        parts = []
+        for replica, y in enumerate(row.lines[:self.run.group.replicas]):
+            parts.append(svg.text(MARGIN, y + 4, f"replica {replica}", "name", "start"))
+            parts += [svg.line(start, y, end, y, "time") for start, end in self.spans(row, replica)]
             if len(set(self.run.group.votes)) > 1:
                 votes = f"votes {self.run.group.votes[replica]}"
-                parts.append(svg.text(12, y + 4 + LEADING, votes, "plain", "start"))
-            top = y + 4 - LEADING * (len(view) - 1) / 2
-            for place, (text, style) in enumerate(view):
-                parts.append(svg.text(right + 8, top + LEADING * place, text, style, "start"))
-        if len(self.layout.rows) > self.run.group.replicas:
-            parts.append(svg.text(12, self.layout.rows[-1] + 4, "no replica", "name", "start"))
+                parts.append(svg.text(MARGIN, y + 4 + LEADING, votes, "plain", "start"))
+        if len(row.lines) > self.run.group.replicas:
+            parts.append(svg.text(MARGIN, row.lines[-1] + 4, "no replica", "name", "start"))
         return parts
 
-    def messages(self) -> list[str]:
-        """All arrows, those of lost messages last."""
-        columns = self.layout.columns
-        arrows = [
-            self.delivery(column.moment.message, column)
-            for column in columns if column.moment.message
+    def row(self, row: Row) -> list[str]:
+        """All of a row: marks last, over the messages, and those over the lines."""
+        arrivals = [part for column in row.columns if (part := self.arrival(row, column))]
+        cuts = [part for column in row.columns for part in self.cuts(row, column)]
+        marks = [mark(column.moment, *point(row, column)) for column in row.columns]
+        return [*self.captions(row), *self.lines(row), *arrivals, *cuts, *marks]
+
+    # The whole
+
+    def views(self) -> list[str]:
+        """The last views."""
+        top = self.layout.views_top + LEADING
+        return [
+            svg.text(MARGIN, top + LEADING * place, text, style, "start")
+            for place, (text, style) in enumerate(self.layout.views)
         ]
-        lost = []
-        for column in columns:
-            lost += [*self.lost(column, UP), *self.lost(column, DOWN), *self.lost_loop(column)]
-        return arrows + lost
-
-    def marks(self) -> list[str]:
-        """The events' marks."""
-        return [mark(column.moment, *self.point(column)) for column in self.layout.columns]
-
-    def captions(self) -> list[str]:
-        """All that is written beside events."""
-        return [part for column in self.layout.columns for part in self.caption(column)]
 
     def draw(self) -> str:
         """The whole picture."""
-        width = max(self.layout.width, LEAST_WIDTH)
-        asked = any(isinstance(moment.event, Ask) for moment in self.run.moments)
-        legend, height = draw_legend(width, self.layout.height, asked)
-        size = {"width": width, "height": height}
-        parts = [
-            svg.element("title", title_of(self.run)), svg.element("desc", description_of(self.run)),
-            style_sheet(), arrow_heads(), svg.element("rect", fill="#fff", **size),
-            *self.header(), *self.replica_lines(), *self.messages(), *self.marks(),
-            *self.captions(), *legend,
+        width = self.layout.width
+        extra = [
+            words for kind, words in ((Ask, "question"), (Killed, "kill"), (Started, "start"))
+            if any(isinstance(moment.event, kind) for moment in self.run.moments)
         ]
-        box = f"0 0 {svg.decimal(width)} {svg.decimal(height)}"
-        content = "\n" + "\n".join(parts) + "\n"
-        namespace = "http://www.w3.org/2000/svg"
-        return svg.element("svg", content, xmlns=namespace, viewBox=box, role="img", **size) + "\n"
+        legend, height = draw_legend(width, self.layout.height, extra, len(self.layout.rows) > 1)
+        rows = [part for row in self.layout.rows for part in self.row(row)]
+        parts = [style_sheet(), arrow_heads(), *rows, *self.views(), *legend]
+        return svg.document(width, height, title_of(self.run), description_of(self.run), parts)
 
 
-def draw(run: Run) -> str:
+def point(row: Row, column: Column) -> Point:
+    """Where an event's mark stands."""
+    return column.x, row.lines[column.line]
+
+
+def cut_point(start: Point, shift: float, side: int) -> Point:
+    """Where a message is cut so far to the right of an event, on a side of its line."""
+    return start[0] + shift, start[1] + (side * STUB if side else -LOOP_STUB)
+
+
+def draw(run: AnyRun) -> str:
     """The picture of a run."""
     return Picture(run).draw()

@@ -4,10 +4,11 @@ from __future__ import annotations
 from math import cos, hypot, pi, sin
 
 from oracle.report import Learnt, Refused
-from oracle.run import Kind, Moment
+from oracle.run import Kind
 from oracle.script import Ask, Decide, Submit
 
 from . import svg
+from .nodes import AnyMoment, Killed, Said, Started
 
 COLOURS = {
     Kind.OFFER: "#1f5fa8",
@@ -55,6 +56,7 @@ def style_sheet() -> str:
         f"text.{kind.value} {{ fill: {colour}; }}\n"
         f".{kind.value}-arrow {{ stroke: {colour}; fill: none; {STROKES[kind]}; }}\n"
         f".{kind.value}-lost {{ stroke: {colour}; }}\n"
+        f".{kind.value}-ring {{ stroke: {colour}; stroke-width: 1.4; fill: #fff; }}\n"
         for kind, colour in COLOURS.items()
     )
     return svg.element("style", STYLE + kinds)
@@ -91,6 +93,11 @@ def cross(x: float, y: float) -> str:
     return svg.element("path", d=shape, class_="cross")
 
 
+def ring(kind: Kind, x: float, y: float) -> str:
+    """The place where a message leaves a row, and where it comes into another."""
+    return svg.element("circle", cx=x, cy=y, r=CROSS - 1, class_=f"{kind.value}-ring")
+
+
 def star(x: float, y: float) -> str:
     """The mark of a learnt set."""
     radii = (STAR, 0.45 * STAR)
@@ -115,11 +122,25 @@ def disc(x: float, y: float) -> str:
     return svg.element("circle", cx=x, cy=y, r=MARK, class_="mark")
 
 
-def mark(moment: Moment, x: float, y: float) -> str:
+def triangle(x: float, y: float) -> str:
+    """The mark of a start."""
+    r = MARK + 1
+    return svg.polygon([(x - r, y - r), (x + r, y), (x - r, y + r)], "mark")
+
+
+def learns(moment: AnyMoment) -> bool:
+    """Whether a set is learnt at an event."""
+    outcome = moment.outcome
+    return outcome.learns() if isinstance(outcome, Said) else isinstance(outcome, Learnt)
+
+
+def mark(moment: AnyMoment, x: float, y: float) -> str:
     """The mark of an event, on its replica's line."""
     if moment.replica is None:
         return cross(x, y)
-    if isinstance(moment.outcome, Learnt):
+    if isinstance(moment.event, Killed | Started):
+        return cross(x, y) if isinstance(moment.event, Killed) else triangle(x, y)
+    if learns(moment):
         return star(x, y)
     style = "refused" if isinstance(moment.outcome, Refused) else "mark"
     if isinstance(moment.event, Submit | Decide):
@@ -129,9 +150,9 @@ def mark(moment: Moment, x: float, y: float) -> str:
     return disc(x, y)
 
 
-def radius(moment: Moment) -> float:
+def radius(moment: AnyMoment) -> float:
     """How far an arrow keeps from an event's point."""
-    return STAR if isinstance(moment.outcome, Learnt) else MARK + 2
+    return STAR if learns(moment) else MARK + 2
 
 
 # Messages
@@ -155,6 +176,11 @@ def arrow(kind: Kind, start: Point, end: Point, bend: float = 0) -> str:
 def lost_line(kind: Kind, start: Point, end: Point) -> str:
     """The way of a message that is never delivered, cut short."""
     return svg.line(*start, *end, f"lost {kind.value}-lost")
+
+
+def going_on(kind: Kind, start: Point, end: Point) -> str:
+    """The way of a message that arrives in another row, cut short."""
+    return svg.line(*start, *end, f"{kind.value}-arrow")
 
 
 def loop(kind: Kind, start: Point, end: Point, near: float) -> str:

@@ -35,3 +35,13 @@ def polygon(points: list[tuple[float, float]], style: str) -> str:
     """A closed figure."""
     corners = " ".join(f"{decimal(x)},{decimal(y)}" for x, y in points)
     return element("polygon", points=corners, class_=style)
+
+
+def document(width: float, height: float, title: str, description: str, parts: list[str]) -> str:
+    """A whole picture on white, which is read on dark pages too, with what it says for who does not see it."""
+    size = {"width": width, "height": height}
+    first = [element("title", escape(title)), element("desc", escape(description))]
+    ground = element("rect", fill="#fff", **size)
+    content = "\n" + "\n".join([*first, ground, *parts]) + "\n"
+    box = f"0 0 {decimal(width)} {decimal(height)}"
+    return element("svg", content, xmlns="http://www.w3.org/2000/svg", viewBox=box, role="img", **size) + "\n"
