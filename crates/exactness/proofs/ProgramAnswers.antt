@@ -12,7 +12,8 @@ use Rattle.la_io.specs.Streams.{RefusesBytes}
 use Rattle.la_cli.specs.declared.call.Task.{Task}
 
 -- what two calls answer is the same
-pub one_answer : (shelves : List ShelfState) (input t u : List ℕ) → AnswersScript shelves input t → AnswersScript shelves input u
+pub one_answer : (shelves : List ShelfState) (input t u : List ℕ) → AnswersScript shelves input t
+    → AnswersScript shelves input u
     → t ≡ u
 one_answer shelves input t u a b = a.only b.script b.says ∙ sym b.is_text
 

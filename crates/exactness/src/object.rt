@@ -1,2 +1,3 @@
-pub mod exactness;
+mod exactness;
 mod laws;
+mod maps;

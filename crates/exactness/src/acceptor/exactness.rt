@@ -1,6 +1,6 @@
-// Callers that know nothing but the contracts: each makes a call twice, or on two equal values, and
-// promises equal answers. Where memory may run out for one call and not for the other, it promises
-// them where both succeed; and where both are refused, one refusal.
+// Callers that know nothing but the contracts: each makes a call twice, or on two equal values, or beside
+// another that is to answer alike, and promises equal answers. Where memory may run out for one call and
+// not for the other, it promises them where both succeed; and where both are refused, one refusal.
 ghost use Rattle.std.specs.Prelude.{◌≡◌, ◌↔◌, [], ◌∷◌, IsTrue, IsOk, IfOk, IfErr, OnOk, OnErr};
 ghost use Rattle.la_set.specs.Join.{IsCompatible};
 ghost use Rattle.la_set.specs.Counts.{within};
@@ -53,16 +53,6 @@ fn offer_beyond_is_exact(
     ensures unchanged { OnErr result.0 (OnErr result.1 (one.new ≡ other.new)) }
 {
     (one.offer_beyond(offered, base), other.offer(offered))
-}
-
-// No memory is taken, so that the answers are one.
-fn admit_offer_is_exact(
-    acceptor: &Acceptor,
-    offered: &UpdateSet,
-) -> (Result<(), AcceptorError>, Result<(), AcceptorError>)
-    ensures { result.0 ≡ result.1 }
-{
-    (acceptor.admit_offer(offered), acceptor.admit_offer(offered))
 }
 
 // What is known to be the same is not compared, and the answer is one.

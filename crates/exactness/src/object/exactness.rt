@@ -49,7 +49,7 @@ fn has_room_is_exact<B: Replicated>(one: &B, other: &B) -> (bool, bool)
     (one.has_room(), other.has_room())
 }
 
-pub fn absorb_one_is_exact<B: Replicated>(
+fn absorb_one_is_exact<B: Replicated>(
     one: &mut B,
     other: &mut B,
     update: &Update,
@@ -62,7 +62,7 @@ pub fn absorb_one_is_exact<B: Replicated>(
     (one.absorb(update), other.absorb(update))
 }
 
-pub fn ask_one_is_exact<B: Replicated>(
+fn ask_one_is_exact<B: Replicated>(
     one: &B,
     other: &B,
     query: &Query,
@@ -73,7 +73,7 @@ pub fn ask_one_is_exact<B: Replicated>(
     (one.ask(query), other.ask(query))
 }
 
-pub fn observed_by_one_is_exact<B: Replicated>(
+fn observed_by_one_is_exact<B: Replicated>(
     one: &B,
     other: &B,
     element: u64,

@@ -1,4 +1,5 @@
-// Callers that know nothing but the contracts: each makes a call twice and promises equal answers.
+// Callers that know nothing but the contracts: each makes a call twice, or beside another that is to answer alike,
+// and promises equal answers.
 ghost use Rattle.std.specs.Prelude.{◌≡◌, ◌≢◌, ◌↔◌, ◌<◌, ◌≤◌};
 ghost use Rattle.std.specs.Prelude.{true, length, IsTrue, IsOk, IfOk, IfErr, OnOk, OnErr};
 ghost use Rattle.std.specs.Prelude.{Some, IfSome, option_copied};
@@ -287,21 +288,6 @@ fn reply_grown_is_exact(
     (
         one.reply_grown(from, ballot, replies.0),
         other.reply(from, ballot, replies.1),
-    )
-}
-
-// No memory is taken, so that the answers are one.
-fn admit_reply_is_exact(
-    proposer: &Proposer,
-    from: u8,
-    ballot: u32,
-    refusal: Option<&UpdateSet>,
-) -> (AdmitsReply, AdmitsReply)
-    ensures { result.0 ≡ result.1 }
-{
-    (
-        proposer.admit_reply(from, ballot, refusal),
-        proposer.admit_reply(from, ballot, refusal),
     )
 }
 

@@ -182,19 +182,6 @@ fn what_waits_is_admitted_without_memory(proposer: &Proposer) -> Result<(), Prop
     proposer.admit_submission()
 }
 
-fn a_late_reply_is_heard_without_memory(
-    proposer: &mut Proposer,
-    from: u8,
-    ballot: u32,
-) -> Result<Heard, ProposerError>
-    requires late { ballot < proposer.old.number }
-    requires in_group { from < length proposer.old.votes }
-    ensures answer { result ≡ Ok Heard.Ignored }
-    ensures stays { proposer.new ≡ proposer.old }
-{
-    proposer.reply(from, ballot, Reply::Yes)
-}
-
 fn an_acknowledgement_counts_without_memory(
     proposer: &mut Proposer,
     from: u8,

@@ -1,6 +1,6 @@
-// Callers that know nothing but the contracts: each makes a call twice, or on two equal values, and
-// promises equal answers. Where memory may run out for one call and not for the other, it promises
-// them where both succeed; and where both are refused, one refusal.
+// Callers that know nothing but the contracts: each makes a call twice, or on two equal values, or beside
+// another that is to answer alike, and promises equal answers. Where memory may run out for one call and
+// not for the other, it promises them where both succeed; and where both are refused, one refusal.
 ghost use Rattle.std.specs.Prelude.{◌≡◌, ◌<◌, ◌↔◌, map, IsTrue, IfOk, IfErr, OnOk, OnErr};
 ghost use Rattle.std.specs.Prelude.{option_copied, IsSome};
 ghost use Rattle.la_set.specs.declared.error.SetError.TheVariants.{Memory};
@@ -271,16 +271,6 @@ fn contains_all_is_exact(set: &UpdateSet, other: &UpdateSet) -> (bool, bool)
     (set.contains_all(other), set.contains_all(other))
 }
 
-fn contains_compatible_is_exact(set: &UpdateSet, other: &UpdateSet) -> (bool, bool)
-    requires { IsCompatible set.now other.now }
-    ensures { result.0 ≡ result.1 }
-{
-    (
-        set.contains_compatible(other),
-        set.contains_compatible(other),
-    )
-}
-
 // By the counts alone it is answered what comparing answers.
 fn counts_tell_inclusion(set: &UpdateSet, other: &UpdateSet) -> (bool, bool)
     requires { IsCompatible set.now other.now }
@@ -289,28 +279,12 @@ fn counts_tell_inclusion(set: &UpdateSet, other: &UpdateSet) -> (bool, bool)
     (set.contains_compatible(other), set.contains_all(other))
 }
 
-fn is_larger_is_exact(set: &UpdateSet, other: &UpdateSet) -> (bool, bool)
-    ensures { result.0 ≡ result.1 }
-{
-    (set.is_larger(other), set.is_larger(other))
-}
-
 // What is known of both changes no answer.
 fn is_larger_beyond_is_exact(set: &UpdateSet, other: &UpdateSet, base: Counts) -> (bool, bool)
     requires { within set.now base ≡ within other.now base }
     ensures { result.0 ≡ result.1 }
 {
     (set.is_larger_beyond(other, base), set.is_larger(other))
-}
-
-fn is_larger_compatible_is_exact(set: &UpdateSet, other: &UpdateSet) -> (bool, bool)
-    requires { IsCompatible set.now other.now }
-    ensures { result.0 ≡ result.1 }
-{
-    (
-        set.is_larger_compatible(other),
-        set.is_larger_compatible(other),
-    )
 }
 
 // By the counts alone it is answered what comparing answers.
@@ -377,30 +351,6 @@ fn union_is_exact(
     (one.union(other), also.union(other))
 }
 
-fn join_is_exact(
-    one: &mut UpdateSet,
-    also: &mut UpdateSet,
-    other: &UpdateSet,
-) -> (Result<(), AllocError>, Result<(), AllocError>)
-    requires { one.old ≡ also.old }
-    ensures { OnOk result.0 (OnOk result.1 (one.new ≡ also.new)) }
-{
-    (one.join(other), also.join(other))
-}
-
-fn join_compatible_is_exact(
-    one: &mut UpdateSet,
-    also: &mut UpdateSet,
-    other: &UpdateSet,
-) -> (Result<(), AllocError>, Result<(), AllocError>)
-    requires same { one.old ≡ also.old }
-    requires compatible { IsCompatible one.old other.now }
-    ensures set { OnOk result.0 (OnOk result.1 (one.new ≡ also.new)) }
-    ensures unchanged { OnErr result.0 (OnErr result.1 (one.new ≡ also.new)) }
-{
-    (one.join_compatible(other), also.join_compatible(other))
-}
-
 // Where no id has two updates, what is joined without comparing is the join.
 fn join_compatible_is_a_join(
     one: &mut UpdateSet,
@@ -409,7 +359,8 @@ fn join_compatible_is_a_join(
 ) -> (Result<(), AllocError>, Result<(), AllocError>)
     requires same { one.old ≡ also.old }
     requires compatible { IsCompatible one.old other.now }
-    ensures { OnOk result.0 (OnOk result.1 (one.new ≡ also.new)) }
+    ensures set { OnOk result.0 (OnOk result.1 (one.new ≡ also.new)) }
+    ensures unchanged { OnErr result.0 (OnErr result.1 (one.new ≡ also.new)) }
 {
     (one.join_compatible(other), also.join(other))
 }

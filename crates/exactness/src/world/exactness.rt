@@ -216,19 +216,6 @@ fn reports_are_one<B: Replicated>(
     Ok((world.report(steps)?, world.report(same)?))
 }
 
-fn last_reports_are_one<B: Replicated>(
-    one: World<B>,
-    other: World<B>,
-    steps: Steps,
-    same: Steps,
-) -> Result<(Report, Report), AllocError>
-    requires worlds { one ≡ other }
-    requires lines { steps ≡ same }
-    ensures { IfOk result (λ both. both.0 ≡ both.1) }
-{
-    Ok((one.into_report(steps)?, other.into_report(same)?))
-}
-
 fn a_last_report_is_a_report<B: Replicated>(
     one: World<B>,
     other: World<B>,

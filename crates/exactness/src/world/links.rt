@@ -3,7 +3,7 @@ ghost use Rattle.std.specs.Prelude.{◌≡◌, IfOk};
 
 use la_node::{Letter, Links, Node, Standing};
 use la_object::Replicated;
-use la_replica::{Mail, Message, Progress};
+use la_replica::{Mail, Message, Parcel, Progress};
 use std::alloc::{AllocError, Global};
 
 fn new_links_are_one() -> (Links, Links)
@@ -18,18 +18,30 @@ fn known_is_exact(links: &Links, replica: u8) -> (Progress, Progress)
     (links.known(replica), links.known(replica))
 }
 
-fn hear_is_exact(one: &mut Links, other: &mut Links, replica: u8, progress: Progress)
+fn believed_is_exact(links: &Links, replica: u8) -> (Progress, Progress)
+    ensures { result.0 ≡ result.1 }
+{
+    (links.believed(replica), links.believed(replica))
+}
+
+fn hear_is_exact(one: &mut Links, other: &mut Links, replica: u8, far: (Progress, Progress))
     requires { one.old ≡ other.old }
     ensures { one.new ≡ other.new }
 {
-    one.hear(replica, progress);
-    other.hear(replica, progress);
+    one.hear(replica, far.0, far.1);
+    other.hear(replica, far.0, far.1);
 }
 
 fn is_owed_is_exact(links: &Links, message: &Message) -> (bool, bool)
     ensures { result.0 ≡ result.1 }
 {
     (links.is_owed(message), links.is_owed(message))
+}
+
+fn wants_standing_is_exact<B: Replicated>(node: &Node<B>, parcel: &Parcel) -> (bool, bool)
+    ensures { result.0 ≡ result.1 }
+{
+    (node.wants_standing(parcel), node.wants_standing(parcel))
 }
 
 fn standing_is_exact<B: Replicated>(node: &Node<B>, to: u8) -> (Standing, Standing)
