@@ -1,13 +1,13 @@
 -- What a delta stands for over a set.
-use Rattle.std.proofs.Common.{◌≡◌, ℕ, zero, suc, ◌<◌, ◌≤◌, List, [], ◌∷◌, ◌++◌, length, take, min, Some, refl, ap, sym, ◌∙◌, subst, arith, inl, inr}
+use Rattle.std.proofs.Common.{◌≡◌, ◌≢◌, ◌⊎◌, Option, None, IsSomeAnd, IfSome, MatchOption, ℕ, zero, suc, ◌<◌, ◌≤◌, List, [], ◌∷◌, ◌++◌, length, take, min, Some, refl, ap, sym, ◌∙◌, subst, arith, inl, inr}
 use Rattle.std.specs.List.{slice_get}
 use Rattle.std.proofs.lemmas.List.{length-append, take-append-le, take-take}
 use Rattle.std.proofs.lemmas.Bool.{cases_eq}
-use Rattle.std.proofs.lemmas.Option.{same_Some}
+use Rattle.std.proofs.lemmas.Option.{none-some, same_Some}
 use Rattle.la_set.specs.declared.counts.Counts.{Counts}
 use Rattle.la_set.specs.declared.update.Update.{Update}
 use Rattle.la_set.specs.ObjectOps.{ObjectOp, object_op_of}
-use Rattle.la_set.specs.Agreement.{AgreeBelow}
+use Rattle.la_set.specs.Agreement.{Agree, AgreeBelow, IsFirstDifference}
 use Rattle.la_set.specs.Histories.{Histories, history, count, numbered, push, IsNext, IsWithinLimit}
 use Rattle.la_set.specs.Join.{IsCompatible}
 use Rattle.la_set.specs.Counts.{count_in, from_counts, zero_counts, counts_of, HasCounts, within}
@@ -15,7 +15,7 @@ use Rattle.la_set.specs.Deltas.{DeltaState, delta_over, over, pushed, rebuilt, I
 use Rattle.la_set.proofs.Pushing.{pushed-PushesTo, next-PushesTo}
 use Rattle.la_set.proofs.Overs.{over-pushes}
 use Rattle.la_set.proofs.lemmas.SetHistories.{same_histories, history-with_same, history-with_other}
-use Rattle.la_set.proofs.lemmas.NumberedLists.{take-numbered}
+use Rattle.la_set.proofs.lemmas.NumberedLists.{length-numbered, take-numbered}
 use Rattle.la_set.proofs.lemmas.Inclusions.{compatible-agree}
 use Rattle.la_set.proofs.lemmas.Counting.{history-within, count-within, count_in-from_counts, count_in-counts_of}
 
@@ -118,6 +118,35 @@ within-agree a b c same r k x y lt in_a in_b =
     same_Some x y
     (sym (reads-front n (numbered r 1 (history a r)) k lt ∙ in_a) ∙ ap (λ us. slice_get us k) fronts_are
     ∙ reads-front n (numbered r 1 (history b r)) k lt ∙ in_b)
+
+got_below : {X : Type 0} (xs : List X) (k : ℕ) (x : X) → slice_get xs k ≡ Some x → k < length xs
+got_below [] k x e = absurd (none-some x e)
+got_below (y ∷ xs) zero x e = omega arith
+got_below (y ∷ xs) (suc k) x e = let below = got_below xs k x e in omega (arith, below)
+
+-- and they agree throughout where one of them has no more
+pub within-agree-all : (a b : Histories) (c : Counts) → within a c ≡ within b c → (r : ℕ)
+    → (length (history a r) ≤ count_in c r) ⊎ (length (history b r) ≤ count_in c r)
+    → Agree (numbered r 1 (history a r)) (numbered r 1 (history b r))
+within-agree-all a b c same r fewer n k x y lt in_a in_b =
+    let left = got_below (numbered r 1 (history a r)) k x in_a in
+    let right = got_below (numbered r 1 (history b r)) k y in_b in
+    within-agree a b c same r k x y (elim fewer [
+      | inl le ↦ omega (arith, le, left, length-numbered r 1 (history a r))
+      | inr le ↦ omega (arith, le, right, length-numbered r 1 (history b r))
+    ]) in_a in_b
+
+first_below : (xs ys : List Update) (place : ℕ) (o : Option Update) → slice_get xs place ≡ o
+    → IsSomeAnd o (λ x. IsSomeAnd (slice_get ys place) (λ y. x ≢ y)) → place < length xs
+first_below xs ys place None e differs = absurd differs
+first_below xs ys place (Some x) e differs = got_below xs place x e
+
+-- a place at which two lists differ is one of the first's
+pub difference_below : (xs ys : List Update) (n : ℕ) → length xs ≤ n → (found : Option ℕ)
+    → MatchOption found (Agree xs ys) (λ place. IsFirstDifference xs ys place) → IfSome found (λ place. place < n)
+difference_below xs ys n le None it = tt
+difference_below xs ys n le (Some place) it =
+    let lt = first_below xs ys place (slice_get xs place) refl it.differs in omega (arith, le, lt)
 
 -- the smaller counts of two, as `Counts::min` answers them
 abbrev pub min_counts : Counts → Counts → Counts

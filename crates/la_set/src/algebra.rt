@@ -1,13 +1,14 @@
 // What sets say of one another, over what `set` offers.
 ghost use Rattle.std.specs.Prelude.{◌≡◌, ◌+◌, ◌++◌, ◌<◌, ◌≤◌, ◌↔◌, []};
-ghost use Rattle.std.specs.Prelude.{ℕ, length, List, take, reverse, slice_get, Some, IsOk, IsTrue};
-ghost use Rattle.std.specs.Prelude.{IfOk, IfErr, OnOk, OnErr, MatchOption};
-ghost use Rattle.la_set.specs.Histories.{updates, updates_of};
+ghost use Rattle.std.specs.Prelude.{ℕ, min, length, List, take, reverse, slice_get, Some, IsOk, IsTrue};
+ghost use Rattle.std.specs.Prelude.{IfOk, IfErr, IfSome, OnOk, OnErr, MatchOption};
+ghost use Rattle.la_set.specs.Histories.{count, updates, updates_of};
+ghost use Rattle.la_set.specs.Agreement.{Agree, IsFirstDifference};
 ghost use Rattle.la_set.specs.Inclusion.{IsSubset, is_subset, IsOrderOf};
 ghost use Rattle.la_set.specs.Inclusion.{AreComparable, is_larger, larger_of};
 ghost use Rattle.la_set.specs.Join.{HasNoMore, IsCompatible, IsLeastClash, join, joined};
 ghost use Rattle.la_set.specs.Difference.{beyond, unmatched};
-ghost use Rattle.la_set.specs.Counts.{within};
+ghost use Rattle.la_set.specs.Counts.{count_in, within};
 ghost use Rattle.la_set.specs.Representation.{represented, IsRepresentation};
 ghost use Rattle.la_set.specs.declared.set.TheConstants.{MAX_NUMBER};
 ghost use Rattle.la_set.specs.Links.{lent_items};
@@ -198,16 +199,36 @@ impl UpdateSet {
         ensures { MatchOption result (IsCompatible self.now other.now)
             (λ id. IsLeastClash self.now other.now id) }
     {
+        let both = self.counts().min(other.counts());
         for replica in 0..REPLICAS {
-            let mine = self.history_of(replica);
-            let theirs = other.history_of(replica);
-            let known = base.of(replica) as usize;
-            if let Some(place) = first_difference_from(mine, theirs, known) {
+            if let Some(place) = self.differ_at(other, base, both, replica) {
                 let number = place as u32 + 1;
                 return Some(UpdateId { replica, number });
             }
         }
         None
+    }
+
+    // The first place at which both sets have an update of a replica and these differ, of two sets
+    // that are known to have the same within these counts, and that both have so many of each
+    // replica. Where these are no more, no list is gone along.
+    fn differ_at(&self, other: &UpdateSet, base: Counts, both: Counts, replica: u8) -> Option<usize>
+        requires known { replica < REPLICAS }
+        requires same { within self.now base ≡ within other.now base }
+        requires both { count_in both replica ≡ min (count self.now replica) (count other.now replica) }
+        ensures first { MatchOption result
+            (Agree (updates_of self.now replica) (updates_of other.now replica))
+            (λ place. IsFirstDifference (updates_of self.now replica) (updates_of other.now replica)
+            place) }
+        ensures limit { IfSome result (λ place. place < MAX_NUMBER) }
+    {
+        let known = base.of(replica);
+        if both.of(replica) <= known {
+            return None;
+        }
+        let mine = self.history_of(replica);
+        let theirs = other.history_of(replica);
+        first_difference_from(mine, theirs, known as usize)
     }
 
     /// Adds what the other set has beyond this one's counts, without refusing clashes: the join,

@@ -1,40 +1,33 @@
-use Rattle.std.proofs.Common.{arith, sym, subst, inl, inr}
+use Rattle.std.proofs.Common.{min, arith, ap, sym, ◌∙◌, subst, inl, inr}
 use Rattle.std.proofs.lemmas.Bool.{cases_eq}
-use Rattle.la_set.specs.Histories.{history, numbered}
-use Rattle.std.specs.Option.{option_copied}
-use Rattle.la_set.specs.Links.{items_of}
-use Rattle.la_set.specs.Agreement.{AgreeBelow, IsFirstDifference}
-use Rattle.la_set.specs.Counts.{count_in}
+use Rattle.la_set.specs.Histories.{count}
+use Rattle.la_set.specs.Counts.{count_in, counts_of}
+use Rattle.la_set.proofs.lemmas.Counting.{count_in-from_counts, count_in-counts_of}
 use Rattle.la_set.proofs.lemmas.Agreements.{AgreeAt, compatible-from, least-from}
-use Rattle.la_set.proofs.Rebuilding.{within-agree}
 use Rattle.la_set.proofs.set.UpdateSet.first_clash_beyond.Goals as goal
 
 pub loop-replica-init : goal.loop-replica-init
 loop-replica-init c q lt = absurd (omega arith)
 
-pub first_difference_from-requires : goal.first_difference_from-requires
-first_difference_from-requires c =
+pub differ_at-requires-clause-both : goal.differ_at-requires-clause-both
+differ_at-requires-clause-both c =
     let a = c.args.self.now in let b = c.args.other.now in let r = c.loop-replica.replica in
-    subst
-    (AgreeBelow (items_of (option_copied c.history_of-mine.result))
-    (items_of (option_copied c.history_of-theirs.result))) (sym c.of-known.ensures)
-    (subst (λ vs. AgreeBelow (items_of (option_copied c.history_of-mine.result)) vs (count_in c.args.base r)) (sym c.history_of-theirs.ensures.updates)
-    (subst (λ us. AgreeBelow us (numbered r 1 (history b r)) (count_in c.args.base r)) (sym c.history_of-mine.ensures.updates) (within-agree a b c.args.base c.requires r)))
+    let mine = c.counts.result in let theirs = c.counts-2.result in
+    ap (λ both. count_in both r) c.min-both.ensures
+    ∙ count_in-from_counts (λ q. min (count_in mine q) (count_in theirs q)) r (omega (arith, c.loop-replica-test.true))
+    ∙ ap (λ counts. min (count_in counts r) (count_in theirs r)) c.counts.ensures.counts
+    ∙ ap (λ counts. min (count_in (counts_of a) r) (count_in counts r)) c.counts-2.ensures.counts
+    ∙ ap (λ n. min n (count_in (counts_of b) r)) (count_in-counts_of a r)
+    ∙ ap (min (count a r)) (count_in-counts_of b r)
 
 pub returns-in-Some : goal.returns-in-Some
 returns-in-Some c =
-    let a = c.args.self.now in let b = c.args.other.now in let r = c.loop-replica.replica in
-    least-from a b r c.in-Some.place c.loop-replica.invariant
-    (subst (λ us. IsFirstDifference us (numbered r 1 (history b r)) c.in-Some.place) c.history_of-mine.ensures.updates
-    (subst (λ vs. IsFirstDifference (items_of (option_copied c.history_of-mine.result)) vs c.in-Some.place) c.history_of-theirs.ensures.updates c.in-Some.ensures))
+    least-from c.args.self.now c.args.other.now c.loop-replica.replica c.in-Some.place c.loop-replica.invariant
+    c.in-Some.ensures.first
 
 pub loop-replica-preserved : goal.loop-replica-preserved
 loop-replica-preserved c q lt = elim (cases_eq q c.loop-replica.replica) [
-  | inl e ↦ subst (AgreeAt c.args.self.now c.args.other.now) (sym e) (λ n.
-      subst
-      (λ us. AgreeBelow us (numbered c.loop-replica.replica 1 (history c.args.other.now c.loop-replica.replica)) n)
-      c.history_of-mine.ensures.updates
-      (subst (λ vs. AgreeBelow (items_of (option_copied c.history_of-mine.result)) vs n) c.history_of-theirs.ensures.updates (c.in_default.ensures n)))
+  | inl e ↦ subst (AgreeAt c.args.self.now c.args.other.now) (sym e) c.in_default.ensures.first
   | inr ne ↦ c.loop-replica.invariant q (omega arith)
 ]
 
