@@ -6,10 +6,10 @@ use la_node::Node;
 use la_object::{Answer, Counter, Query};
 use la_orset::OrSet;
 use la_replica::Message;
-use la_set::{Op, UpdateId};
+use la_set::Op;
 use std::alloc::Global;
 use std::collections::VecDeque;
-use uses::nodes::{deliver_all, join, propose, removal, submit, take_in};
+use uses::nodes::{deliver_all, has_own, join, propose, removal, send_again, submit, take_in};
 
 fn proposes(
     group: &mut [Node<Counter>],
@@ -64,7 +64,7 @@ fn decision(alloc: Global) -> Option<bool> {
     decides(alloc, &mut group)
 }
 
-// Submits it at a node, and delivers all that is sent.
+// Submits it at a node, whose mail is lost, and delivers what it sends again.
 fn does(
     group: &mut [Node<OrSet>],
     own: usize,
@@ -72,6 +72,8 @@ fn does(
     network: &mut VecDeque<Message>,
 ) -> Option<()> {
     submit(group.get_mut(own)?, op, network).ok()?;
+    network.clear();
+    send_again(group.get(own)?, network).ok()?;
     deliver_all(group, network, 100).ok()
 }
 
@@ -89,15 +91,7 @@ fn removes(alloc: Global, group: &mut [Node<OrSet>]) -> Option<bool> {
     let put = has_nine(group)?;
     let gone = removal(group.get_mut(1)?, 9).ok()?;
     does(group, 1, gone, &mut network)?;
-    Some(put && !has_nine(group)? && is_shown(group))
-}
-
-fn is_shown(group: &[Node<OrSet>]) -> bool {
-    let id = UpdateId {
-        replica: 1,
-        number: 1,
-    };
-    matches!(group.get(2), Some(node) if node.view().get(id).is_some())
+    Some(put && !has_nine(group)? && has_own(group.get(1)?))
 }
 
 fn removals(alloc: Global) -> Option<bool> {

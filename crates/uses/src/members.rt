@@ -4,21 +4,75 @@ ghost use Rattle.la_set.specs.Inclusion.{IsSubset, AreComparable};
 ghost use Rattle.la_commit.specs.Instances.{first_instance};
 ghost use Rattle.la_commit.specs.Votes.{HoldsVote, first_vote_for};
 ghost use Rattle.la_runner.specs.Members.{IsOfGroup, member_view, member_learnt};
+ghost use Rattle.la_runner.specs.Starting.{AreMembersFrom};
 
 use la_commit::Outcome;
-use la_object::{Replicated, Shelf};
+use la_object::{Counter, Query, Replicated, Shelf, ShelfError};
 use la_proposer::Votes;
-use la_runner::{Group, Jobs, Learned, Logs, Member, Members, RunError, RunnerError, laws, run};
+use la_runner::{
+    Group, Job, Jobs, Learned, Logs, Member, Members, RunError, RunnerError, laws, run,
+};
 use la_set::Op;
 use la_shared::FreeGate;
-use std::alloc::Global;
+use std::alloc::{AllocError, Global};
 use std::sync::Wait;
 use std::thread::Threads;
 
 /// A group of three replicas with one vote each and one adopt-commit object, in which each may submit
 /// a thousand updates.
-pub fn group_of_three(alloc: Global) -> Result<(Group, Members), RunnerError> {
+pub fn group_of_three(alloc: Global) -> Result<(Group, Members), RunnerError>
+    ensures { IfOk result (λ made. AreMembersFrom made.0 1000 0 made.1) }
+{
     Group::new(alloc, 3, 1, 1000, Votes::one_each(3))
+}
+
+/// Three threads count: each adds 1 and then asks for the total.
+pub fn count_in_threads<R: Threads + Wait + Sync>(
+    rt: &R,
+    alloc: Global,
+) -> anyhow::Result<Logs<Counter>> {
+    let (group, members) = group_of_three(alloc)?;
+    let members = all_of(alloc, &group, members)?;
+    let mut shelves = Vec::new(alloc);
+    let mut jobs = Vec::new(alloc);
+    for _ in 0..3 {
+        shelves.push(counting(alloc)?)?;
+        jobs.push(adding(alloc)?)?;
+    }
+    Ok(run(rt, alloc, &group, members, shelves, jobs, 100, &FreeGate)?)
+}
+
+// A new group's members, each taken out.
+fn all_of(alloc: Global, group: &Group, members: Members) -> Result<Vec<Member>, AllocError>
+    requires { AreMembersFrom group.now 1000 0 members }
+    ensures { IfOk result (λ all. All (IsOfGroup group.now) all.items) }
+{
+    let mut left = members;
+    let mut all = Vec::new(alloc);
+    for _ in 0..3u8 {
+        let Some(member) = left.take() else {
+            return Ok(all);
+        };
+        all.push(member)?;
+    }
+    Ok(all)
+}
+
+// A shelf with a counter under 1.
+fn counting(alloc: Global) -> Result<Shelf<Counter>, ShelfError> {
+    let mut shelf = Shelf::new(alloc);
+    shelf.add(1, Counter::new(alloc))?;
+    Ok(shelf)
+}
+
+// What each thread is to do.
+fn adding(alloc: Global) -> Result<Jobs, AllocError> {
+    let mut jobs = Jobs::new(alloc);
+    let op = Op::Inc(1);
+    jobs.push(Job::Update { object: 1, op })?;
+    let query = Query::Total;
+    jobs.push(Job::Ask { object: 1, query })?;
+    Ok(jobs)
 }
 
 /// Adds to a counter twice, in at most a hundred rounds each. The second learnt set contains the

@@ -1,10 +1,13 @@
-ghost use Rattle.std.specs.Prelude.{◌≡◌, List, Some, IfOk};
+ghost use Rattle.std.specs.Prelude.{◌≡◌, ◌≤◌, ◌↔◌, ℕ, List, Some, IfOk, IsTrue, OnOk};
 ghost use Rattle.la_set.specs.declared.update.UpdateId.{UpdateId};
 ghost use Rattle.la_set.specs.declared.update.Op.TheVariants.{Remove};
-ghost use Rattle.la_set.specs.Histories.{empty};
+ghost use Rattle.la_set.specs.Histories.{empty, count};
 ghost use Rattle.la_set.specs.Inclusion.{IsSubset};
 ghost use Rattle.la_object.specs.declared.query.Query.TheVariants.{Total};
 ghost use Rattle.la_object.specs.Shelves.{answer_at, tags_at};
+ghost use Rattle.la_replica.specs.Again.{again};
+ghost use Rattle.la_replica.specs.Whole.{Adds};
+ghost use Rattle.la_replica.specs.ReplicaState.{submitted_in};
 ghost use Rattle.la_node.specs.Nodes.{followed};
 
 use la_commit::Outcome;
@@ -13,7 +16,7 @@ use la_object::{Answer, Counter, Query, Replicated, Shelf, ShelfError};
 use la_proposer::Votes;
 use la_replica::{Message, ReplicaError};
 use la_set::Op;
-use std::alloc::Global;
+use std::alloc::{AllocError, Global};
 use std::collections::VecDeque;
 
 /// Node `own` of a group of three, with one vote each and an adopt-commit object. It has this
@@ -57,6 +60,25 @@ pub fn take_in<B: Replicated>(
     let Received { done, outcome } = node.receive(message)?;
     done.mail.hand_to(network)?;
     Ok(outcome)
+}
+
+/// Hands on again what has had no answer yet, as a timer does while answers stay away.
+pub fn send_again<B: Replicated>(
+    node: &Node<B>,
+    network: &mut VecDeque<Message>,
+) -> Result<(), AllocError>
+    ensures { OnOk result (Adds network.old.items network.new.items (again node.now.replica)) }
+{
+    node.again()?.hand_to(network)
+}
+
+/// Whether the view has all that the node has submitted, so that answers count it.
+pub fn has_own<B: Replicated>(node: &Node<B>) -> bool
+    ensures { (n : ℕ) → submitted_in node.now.replica 0 ≡ Some n
+        → (IsTrue result ↔ n ≤ count node.now.replica.view node.now.replica.own) }
+{
+    let submitted = node.submitted(0).unwrap_or(0);
+    submitted <= node.view().count_of(node.own())
 }
 
 /// Delivers what is on the network and what that sends, at most so many messages.
