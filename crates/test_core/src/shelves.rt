@@ -6,6 +6,7 @@ use la_shelf::{AbsorbError, Shelf, ShelfError};
 use std::alloc::Global;
 use std::process::Abort;
 use uses_types::shelves::status_and_total;
+use uses_types::stocks::left;
 use uses_types::tallies::Tally;
 
 // The object, the replica, the number, and what is done.
@@ -15,6 +16,7 @@ type Row = (u16, u8, u32, Does);
 enum Does {
     Put(u64),
     Inc(u32),
+    Dec(u32),
 }
 
 fn update_of(row: &Row) -> Update {
@@ -22,6 +24,7 @@ fn update_of(row: &Row) -> Update {
     let op = match does {
         Does::Put(value) => Op::Put(value),
         Does::Inc(by) => Op::Inc(by),
+        Does::Dec(by) => Op::Dec(by),
     };
     Update {
         id: UpdateId { replica, number },
@@ -82,6 +85,39 @@ fn objects_of_two_types_answer_in_their_own_words(rt: HostRuntime) {
             &rt,
             "status and total",
             answers(rt.alloc(), &view, replica, status),
+        );
+    }
+}
+
+// ## A stock
+
+const SALES: &[Row] = &[
+    (1, 0, 1, Does::Dec(7)),
+    (1, 0, 2, Does::Dec(5)),
+    (1, 0, 3, Does::Dec(3)),
+    (1, 1, 1, Does::Dec(11)),
+    (1, 1, 2, Does::Inc(2)),
+    (2, 2, 1, Does::Dec(1)),
+];
+
+// What is left of each replica's ten: the 3 that were left covered no 5.
+const LEFT: [(u8, u64); 4] = [(0, 0), (1, 10), (2, 10), (8, 10)];
+
+fn has_left(alloc: Global, view: &UpdateSet, replica: u8, count: u64) -> bool {
+    match left(alloc, view, replica) {
+        Ok(it) => it == count,
+        Err(_) => left(alloc, view, replica).is_ok_and(|it| it == count),
+    }
+}
+
+#[test]
+fn no_share_is_oversold(rt: HostRuntime) {
+    let view = set_of(&rt, rt.alloc(), SALES);
+    for (replica, count) in LEFT {
+        holds(
+            &rt,
+            "what is left",
+            has_left(rt.alloc(), &view, replica, count),
         );
     }
 }

@@ -1,4 +1,5 @@
 pub mod Prices
 pub mod Statuses
+pub mod Stocks
 pub mod Tallies
 pub mod Notes

@@ -16,4 +16,5 @@ pub mod own;
 pub mod registers;
 pub mod shelves;
 pub mod statuses;
+pub mod stocks;
 pub mod tallies;
