@@ -5,7 +5,7 @@ import os
 import resource
 import struct
 import subprocess
-from collections.abc import Iterable
+from collections.abc import Callable, Iterable
 from dataclasses import dataclass
 
 from .calls import ROOT
@@ -66,7 +66,12 @@ class Player:
     def timed(self, lines: Iterable[str]) -> float:
         """The processor's time to play these lines once."""
         self.write(lines)
-        before = resource.getrusage(resource.RUSAGE_CHILDREN)
-        self.play({})
-        after = resource.getrusage(resource.RUSAGE_CHILDREN)
-        return after.ru_utime + after.ru_stime - before.ru_utime - before.ru_stime
+        return processor_seconds(lambda: self.play({}))
+
+
+def processor_seconds(work: Callable[[], object]) -> float:
+    """The processor's time of the programs that this starts and waits for."""
+    before = resource.getrusage(resource.RUSAGE_CHILDREN)
+    work()
+    after = resource.getrusage(resource.RUSAGE_CHILDREN)
+    return after.ru_utime + after.ru_stime - before.ru_utime - before.ru_stime
