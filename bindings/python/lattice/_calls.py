@@ -95,7 +95,7 @@ AHEAD = 27
 UNKEPT = 28
 # The bytes are no journal of this version, or their first line is damaged.
 NO_JOURNAL = 29
-# The journal is that of another replica or of another group.
+# The journal is that of another replica, or of a group with other replicas, commits, cap or votes.
 OTHER_JOURNAL = 30
 # The journal is damaged at a line that is told. No older copy may be put in its place: the replica
 # stays away.

@@ -76,7 +76,8 @@ class Asking:
         return list(counts)
 
     def known(self, replica: int) -> list[int]:
-        """How many updates of each replica another node's view has at least, as far as was heard."""
+        """How many updates of each replica another node's view has at least, as far as was heard: it may stay behind,
+        once the group is silent. Of this node itself `view` says it."""
         counts = (ctypes.c_uint32 * 8)()
         check(self._call(LIBRARY.lattice_known, within(replica, 8, "replica"), counts))
         return list(counts)

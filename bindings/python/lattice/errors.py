@@ -213,10 +213,14 @@ class NoJournalError(LatticeError):
 
 
 class OtherJournalError(LatticeError):
-    """The journal is that of another replica or of another group."""
+    """The journal is that of another replica, or of a group with other replicas, commits, cap or
+    votes."""
 
     status = 30
-    text = "the journal is that of another replica or of another group"
+    text = (
+        "the journal is that of another replica, or of a group with other replicas, commits, cap or "
+        "votes"
+    )
 
 
 class DamagedError(LatticeError):

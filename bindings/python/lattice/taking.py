@@ -18,7 +18,9 @@ class Taking(ABC, Generic[Number]):
 
     What is submitted is learnt later, or never. The update with number `n` of replica `r` is learnt here
     once `view()[r] >= n`, and at another replica `q`, as far as was heard, once `known(q)[r] >= n`. A group that has
-    settled is silent: `again` then sends nothing. Whoever leaves before may leave the others without a majority.
+    settled is silent: `again` then sends nothing, and what `q` has of others' updates may never be heard here. So leave
+    once `known(q)[own] >= submitted()` for each other `q`: until then `again` tells them. Whoever leaves before the
+    others may leave them without a majority.
 
     Every call may raise `OutOfMemoryError`. After each refusal the node is as before. A number that does not fit where
     it goes raises `ValueError`. """

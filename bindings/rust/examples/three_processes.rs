@@ -11,7 +11,7 @@ use std::error::Error;
 use std::io::{self, BufRead, BufReader, Write};
 use std::net::{Ipv4Addr, TcpListener, TcpStream};
 use std::path::{Path, PathBuf};
-use std::process::{Child, ChildStdout, Command, Stdio};
+use std::process::{Child, ChildStdout, Command, ExitCode, Stdio};
 use std::sync::mpsc::{Receiver, RecvTimeoutError, SyncSender, sync_channel};
 use std::time::{Duration, Instant};
 use std::{env, fs, iter, process, thread};
@@ -292,11 +292,21 @@ fn run_all() -> Result<(), Box<dyn Error>> {
     Ok(())
 }
 
-fn main() -> Result<(), Box<dyn Error>> {
-    let words: Vec<String> = env::args().skip(1).collect();
-    match &words[..] {
+fn run(words: &[String]) -> Result<(), Box<dyn Error>> {
+    match words {
         [own, port, folder] => run_node(own.parse()?, Path::new(folder), port.parse()?),
         _ => run_all(),
+    }
+}
+
+fn main() -> ExitCode {
+    let words: Vec<String> = env::args().skip(1).collect();
+    match run(&words) {
+        Ok(()) => ExitCode::SUCCESS,
+        Err(error) => {
+            eprintln!("three_processes: {error}");
+            ExitCode::FAILURE
+        }
     }
 }
 

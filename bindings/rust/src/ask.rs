@@ -94,7 +94,8 @@ pub trait Ask: Sealed {
         Ok(counts)
     }
 
-    /// How many updates of each replica another node's view has at least, as far as was heard.
+    /// How many updates of each replica another node's view has at least, as far as was heard: it may
+    /// stay behind, once the group is silent. Of this node itself [`view`](Ask::view) says it.
     fn known(&self, replica: u8) -> Result<Counts, Self::Refused> {
         let mut counts = [0; 8];
         // SAFETY: as in `view`.

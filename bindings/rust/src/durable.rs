@@ -8,7 +8,8 @@ use std::fs::{File, TryLockError};
 use std::io::{self, ErrorKind, Write};
 use std::path::Path;
 
-/// Why a [`Durable`] was not opened, or did not do a call.
+/// Why a [`Durable`] was not opened, or did not do a call. A `main` that returns it prints a name
+/// alone: `{error}` is its text.
 #[derive(Debug)]
 #[non_exhaustive]
 pub enum DurableError {

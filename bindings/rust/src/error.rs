@@ -64,7 +64,8 @@ pub enum Error {
     Unkept,
     /// The bytes are no journal of this version, or their first line is damaged.
     NoJournal,
-    /// The journal is that of another replica or of another group.
+    /// The journal is that of another replica, or of a group with other replicas, commits, cap or
+    /// votes.
     OtherJournal,
     /// The journal is damaged at a line that is told. No older copy may be put in its place: the
     /// replica stays away.
@@ -125,7 +126,9 @@ impl Error {
             Error::NoJournal => {
                 "the bytes are no journal of this version, or their first line is damaged"
             }
-            Error::OtherJournal => "the journal is that of another replica or of another group",
+            Error::OtherJournal => {
+                "the journal is that of another replica, or of a group with other replicas, commits, cap or votes"
+            }
             Error::Damaged => {
                 "the journal is damaged at a line that is told. No older copy may be put in its place: the replica stays away"
             }

@@ -11,8 +11,9 @@ pub trait Sealed {}
 /// What is submitted is learnt later, or never. The update with number `n` of replica `r` is learnt
 /// here once `view()?[r] >= n`, by [`Ask::view`](crate::Ask::view), and at another replica `q`, as far
 /// as was heard, once `known(q)?[r] >= n`, by [`Ask::known`](crate::Ask::known). A group that has
-/// settled is silent: [`again`](Submit::again) then sends nothing. Whoever leaves before may leave the
-/// others without a majority.
+/// settled is silent: [`again`](Submit::again) then sends nothing, and what `q` has of others' updates
+/// may never be heard here. So leave once `known(q)?[own] >= submitted()?` for each other `q`: until
+/// then `again` tells them. Whoever leaves before the others may leave them without a majority.
 ///
 /// Every call is refused with [`Error::Memory`] where memory is refused. After each refusal the node
 /// is as before.

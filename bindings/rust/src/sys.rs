@@ -136,7 +136,8 @@ pub const AHEAD: u8 = 27;
 pub const UNKEPT: u8 = 28;
 /// The bytes are no journal of this version, or their first line is damaged.
 pub const NO_JOURNAL: u8 = 29;
-/// The journal is that of another replica or of another group.
+/// The journal is that of another replica, or of a group with other replicas, commits, cap or
+/// votes.
 pub const OTHER_JOURNAL: u8 = 30;
 /// The journal is damaged at a line that is told. No older copy may be put in its place: the
 /// replica stays away.

@@ -36,7 +36,7 @@ pub enum Task {
 }
 
 /// The version of the program, which `lattice --version` prints.
-pub const VERSION: &str = "0.4.0";
+pub const VERSION: &str = "0.5.0";
 
 /// What the help of `lattice` and of `lattice node` says of a node.
 pub const ABOUT_NODE: &str =

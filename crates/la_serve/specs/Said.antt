@@ -159,7 +159,7 @@ abbrev pub told_status : ReplicaState → Links → Tally → NodeStatus
 told_status n known tally = status_by n known tally (slice_get n.instances 0)
 
 abbrev pub node_version : List ℕ
-node_version = codes "0.4.0"
+node_version = codes "0.5.0"
 
 -- what its process counted is not told apart from other counts
 abbrev pub IsSaidStatus : ReplicaState → (known : Links) → (name : List ℕ) → Said → Type 0
