@@ -1,16 +1,27 @@
 -- What a contract of la_set leaves open: one order, one least clash, one refusal.
-use Rattle.std.proofs.Common.{◌≡◌, Option, Some, None, MatchOption, Ordering, refl, ap, subst, inl, inr}
+use Rattle.std.proofs.Common.{◌≡◌, ◌<◌, ℕ, zero, suc, List, [], ◌∷◌, length, take, Option, Some, None}
+use Rattle.std.proofs.Common.{MatchOption, Ordering, refl, ap, sym, ◌∙◌, subst, inl, inr, arith}
+use Rattle.std.specs.List.{slice_get}
+use Rattle.std.proofs.lemmas.Bool.{cases_lt}
+use Rattle.std.proofs.lemmas.List.{length-take}
 use Rattle.std.specs.declared.cmp.Ordering.TheVariants.{Less, Equal, Greater}
 use Rattle.la_set.specs.declared.update.UpdateId.{UpdateId}
 use Rattle.la_set.specs.declared.error.SetError.{SetError}
 use Rattle.la_set.specs.declared.error.SetError.TheVariants.{TooManyTags, Gap, Clash, NoBase, Memory}
-use Rattle.la_set.specs.Histories.{Histories}
+use Rattle.la_set.specs.declared.update.Update.{Update}
+use Rattle.la_set.specs.declared.counts.Counts.{Counts}
+use Rattle.la_set.specs.AgreeWithin.{IsAgreement}
+use Rattle.la_set.specs.Counts.{count_in}
+use Rattle.la_set.specs.Histories.{Histories, history, numbered, updates_of}
 use Rattle.la_set.specs.Inclusion.{IsSubset, IsOrderOf}
 use Rattle.la_set.specs.Join.{IsCompatible, IsLeastClash}
 use Rattle.la_set.specs.Refusals.{IsUnionRefusal}
 use Rattle.la_set.specs.Deltas.{DeltaState, IsRebuildRefusal}
 use Rattle.la_set.proofs.lemmas.IdOrder.{id_cases}
 use Rattle.la_set.proofs.lemmas.Agreements.{clash_compatible}
+use Rattle.la_set.proofs.lemmas.Counting.{history-within}
+use Rattle.la_set.proofs.lemmas.NumberedLists.{length-numbered, take-numbered}
+use Rattle.la_set.proofs.lemmas.Prefixes.{slice_get-take}
 
 within : (a b : Histories) → a ≡ b → IsSubset a b
 within a b e = subst (IsSubset a) e (λ u has. has)
@@ -83,3 +94,37 @@ one_rebuild_refusal s d Gap TooManyTags p q = absurd q
 one_rebuild_refusal s d Gap (Clash x) p q = absurd q
 one_rebuild_refusal s d Memory TooManyTags p q = absurd q
 one_rebuild_refusal s d Memory (Clash x) p q = absurd q
+
+-- what stands at a place below a list's length
+read_at : (us : List Update) (n : ℕ) → n < length us → (G : Type 0)
+    → ((u : Update) → slice_get us n ≡ Some u → G) → G
+read_at [] n lt G then = absurd (omega arith)
+read_at (u ∷ us) zero lt G then = then u refl
+read_at (u ∷ us) (suc n) lt G then = read_at us n (omega arith) G then
+
+-- two sets agree no further than one of two answers, where the other goes further
+no_further : (s t : Histories) (c d : Counts) (r : ℕ) → IsAgreement s t c → IsAgreement s t d
+    → count_in c r < count_in d r → ⊥
+no_further s t c d r p q lt =
+    let n = count_in c r in let m = count_in d r in
+    let first = q.agree.first r in
+    let fronts : take m (updates_of s r) ≡ take m (updates_of t r) =
+    take-numbered r 1 m (history s r)
+    ∙ ap (numbered r 1)
+    (sym (history-within s d r) ∙ ap (λ (x : Histories). history x r) q.agree.same ∙ history-within t d r)
+    ∙ sym (take-numbered r 1 m (history t r)) in
+    read_at (take m (updates_of s r)) n
+    (omega (arith, lt, first, length-take m (updates_of s r), length-numbered r 1 (history s r))) ⊥
+    (λ u here.
+    p.most r u (slice_get-take m (updates_of s r) n u here)
+    (slice_get-take m (updates_of t r) n u (ap (λ us. slice_get us n) (sym fronts) ∙ here)))
+
+pub one_agreement : (s t : Histories) (c d : Counts) → IsAgreement s t c → IsAgreement s t d → (r : ℕ)
+    → count_in c r ≡ count_in d r
+one_agreement s t c d p q r = elim (cases_lt (count_in c r) (count_in d r)) [
+  | inl lt ↦ absurd (no_further s t c d r p q lt)
+  | inr le ↦ elim (cases_lt (count_in d r) (count_in c r)) [
+    | inl lt ↦ absurd (no_further s t d c r q p lt)
+    | inr ge ↦ omega (arith, le, ge)
+  ]
+]

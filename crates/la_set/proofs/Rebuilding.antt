@@ -1,12 +1,12 @@
 -- What a delta stands for over a set.
-use Rattle.std.proofs.Common.{◌≡◌, ◌≢◌, ◌⊎◌, Option, None, IsSomeAnd, IfSome, MatchOption, ℕ, zero, suc, ◌<◌, ◌≤◌, List, [], ◌∷◌, ◌++◌, length, take, min, Some, refl, ap, sym, ◌∙◌, subst, arith, inl, inr}
+use Rattle.std.proofs.Common.{◌≡◌, ◌≢◌, ◌⊎◌, Option, None, IsSomeAnd, IfSome, MatchOption, ℕ, zero, suc, ◌+◌, ◌<◌, ◌≤◌, List, [], ◌∷◌, ◌++◌, length, take, min, Some, refl, ap, sym, ◌∙◌, subst, arith, inl, inr}
 use Rattle.std.specs.List.{slice_get}
 use Rattle.std.proofs.lemmas.List.{length-append, take-append-le, take-take}
 use Rattle.std.proofs.lemmas.Bool.{cases_eq}
 use Rattle.std.proofs.lemmas.Option.{none-some, same_Some}
 use Rattle.la_set.specs.declared.counts.Counts.{Counts}
 use Rattle.la_set.specs.declared.update.Update.{Update}
-use Rattle.la_set.specs.ObjectOps.{ObjectOp, object_op_of}
+use Rattle.la_set.specs.ObjectOps.{object_op_of}
 use Rattle.la_set.specs.Agreement.{Agree, AgreeBelow, IsFirstDifference}
 use Rattle.la_set.specs.Histories.{Histories, history, count, numbered, push, IsNext, IsWithinLimit}
 use Rattle.la_set.specs.Join.{IsCompatible}
@@ -37,14 +37,15 @@ rebuilt-agreeing x s base d e has few stands agrees =
     subst (λ t. IsOver x t → AgreesWithin x t → s ≡ rebuilt x t) e
     (λ over agree. sym (rebuilt-over x s base over.base has few (agree s refl))) stands agrees
 
-fronts : (n : ℕ) (xs ys : List ObjectOp) → n ≤ length xs → n ≤ length ys
-    → ((k : ℕ) (d e : ObjectOp) → slice_get xs k ≡ Some d → slice_get ys k ≡ Some e → d ≡ e) → take n xs ≡ take n ys
+-- lists that agree below a place to which both go have the same front
+pub fronts : {X : Type 0} (n : ℕ) (xs ys : List X) → n ≤ length xs → n ≤ length ys → AgreeBelow xs ys n
+    → take n xs ≡ take n ys
 fronts zero xs ys a b same = refl
 fronts (suc n) [] ys a b same = absurd (omega arith)
 fronts (suc n) (x ∷ xs) [] a b same = absurd (omega arith)
 fronts (suc n) (x ∷ xs) (y ∷ ys) a b same =
-    ap (λ z. z ∷ take n xs) (same 0 x y refl refl)
-    ∙ ap (λ zs. y ∷ zs) (fronts n xs ys (omega arith) (omega arith) (λ k d e. same (suc k) d e))
+    ap (λ z. z ∷ take n xs) (same 0 x y (omega arith) refl refl)
+    ∙ ap (λ zs. y ∷ zs) (fronts n xs ys (omega arith) (omega arith) (λ k d e lt. same (suc k) d e (omega arith)))
 
 -- sets without a clash have the same within counts that both have
 pub same-within : (x s : Histories) (base : Counts) → HasCounts x base → HasCounts s base → IsCompatible x s
@@ -53,8 +54,46 @@ same-within x s base mine theirs one =
     same_histories _ _
     (λ r lt.
     history-within x base r
-    ∙ fronts (count_in base r) (history x r) (history s r) (mine r) (theirs r) (compatible-agree x s one r)
+    ∙ fronts (count_in base r) (history x r) (history s r) (mine r) (theirs r)
+    (λ k d e lt. compatible-agree x s one r k d e)
     ∙ sym (history-within s base r))
+
+-- which updates come next, the counts alone decide
+push_counts : (s t : Histories) (u : Update) → u.id.replica < 8 → ((r : ℕ) → count s r ≡ count t r) → (r : ℕ)
+    → count (push s u) r ≡ count (push t u) r
+push_counts s t u known same r =
+    let q = u.id.replica in
+    elim (cases_eq r q) [
+      | inl e ↦
+          ap length (history-with_same s q (history s q ++ object_op_of u ∷ []) r known e)
+          ∙ length-append (history s q) (object_op_of u ∷ []) ∙ ap (λ n. n + 1) (same q)
+          ∙ sym (length-append (history t q) (object_op_of u ∷ []))
+          ∙ sym (ap length (history-with_same t q (history t q ++ object_op_of u ∷ []) r known e))
+      | inr ne ↦
+          ap length (history-with_other s q (history s q ++ object_op_of u ∷ []) r ne) ∙ same r
+          ∙ sym (ap length (history-with_other t q (history t q ++ object_op_of u ∷ []) r ne))
+    ]
+
+next-like : (us : List Update) (s t : Histories) → ((r : ℕ) → count s r ≡ count t r) → AreNext s us → AreNext t us
+next-like [] s t same all = tt
+next-like (u ∷ us) s t same all = (
+  record {
+    known = all.0.known;
+    next = all.0.next ∙ ap (λ n. n + 1) (same u.id.replica);
+    within = all.0.within;
+  },
+  next-like us (push s u) (push t u) (push_counts s t u all.0.known same) all.1,
+)
+
+-- those that a set has over counts come next in each that has these
+pub next-over : (x s : Histories) (base : Counts) (d : DeltaState) → delta_over s base ≡ d → HasCounts x d.base
+    → HasCounts s base → IsWithinLimit s → AreNext (within x d.base) d.more
+next-over x s base d e mine theirs few =
+    subst (λ (t : DeltaState). HasCounts x t.base → AreNext (within x t.base) t.more) e
+    (λ has.
+    next-like (over s base) (within s base) (within x base)
+    (λ r. count-within s base theirs r ∙ sym (count-within x base has r))
+    (next-PushesTo (over s base) (within s base) s (over-pushes s base theirs few))) mine
 
 -- ## What is known to be the same
 
@@ -106,20 +145,26 @@ reads-front (suc n) [] k lt = refl
 reads-front (suc n) (x ∷ xs) zero lt = refl
 reads-front (suc n) (x ∷ xs) (suc k) lt = reads-front n xs k (omega arith)
 
--- sets with the same within counts agree so far
+-- sets with the same within counts have the same fronts
+pub within-fronts : (a b : Histories) (c : Counts) → within a c ≡ within b c → (r : ℕ)
+    → take (count_in c r) (numbered r 1 (history a r)) ≡ take (count_in c r) (numbered r 1 (history b r))
+within-fronts a b c same r =
+    let n = count_in c r in
+    take-numbered r 1 n (history a r)
+    ∙ ap (numbered r 1) (sym (history-within a c r) ∙ ap (λ s. history s r) same ∙ history-within b c r)
+    ∙ sym (take-numbered r 1 n (history b r))
+
+-- and agree so far
 pub within-agree : (a b : Histories) (c : Counts) → within a c ≡ within b c → (r : ℕ)
     → AgreeBelow (numbered r 1 (history a r)) (numbered r 1 (history b r)) (count_in c r)
 within-agree a b c same r k x y lt in_a in_b =
     let n = count_in c r in
-    let fronts_are : take n (numbered r 1 (history a r)) ≡ take n (numbered r 1 (history b r)) =
-    take-numbered r 1 n (history a r)
-    ∙ ap (numbered r 1) (sym (history-within a c r) ∙ ap (λ s. history s r) same ∙ history-within b c r)
-    ∙ sym (take-numbered r 1 n (history b r)) in
     same_Some x y
-    (sym (reads-front n (numbered r 1 (history a r)) k lt ∙ in_a) ∙ ap (λ us. slice_get us k) fronts_are
+    (sym (reads-front n (numbered r 1 (history a r)) k lt ∙ in_a)
+    ∙ ap (λ us. slice_get us k) (within-fronts a b c same r)
     ∙ reads-front n (numbered r 1 (history b r)) k lt ∙ in_b)
 
-got_below : {X : Type 0} (xs : List X) (k : ℕ) (x : X) → slice_get xs k ≡ Some x → k < length xs
+pub got_below : {X : Type 0} (xs : List X) (k : ℕ) (x : X) → slice_get xs k ≡ Some x → k < length xs
 got_below [] k x e = absurd (none-some x e)
 got_below (y ∷ xs) zero x e = omega arith
 got_below (y ∷ xs) (suc k) x e = let below = got_below xs k x e in omega (arith, below)
@@ -173,7 +218,7 @@ within-common s a b base one same = same_histories _ _ (λ r lt.
     let few = common-least base s a r lt in
     history-within a c r
     ∙ fronts n (history a r) (history s r) (omega (arith, few)) (omega (arith, few))
-    (λ k d e in_a in_s. sym (compatible-agree s a one r k e d in_s in_a))
+    (λ k d e lt in_a in_s. sym (compatible-agree s a one r k e d in_s in_a))
     ∙ sym (take-take n m (history s r) (omega (arith, few)))
     ∙ ap (take n) (sym (history-within s base r) ∙ ap (λ t. history t r) same ∙ history-within b base r)
     ∙ take-take n m (history b r) (omega (arith, few))

@@ -2,8 +2,10 @@ ghost use Rattle.std.specs.Prelude.{◌≡◌, ◌+◌, ◌≤◌, ◌<◌, ◌+
 ghost use Rattle.std.specs.Prelude.{IsOk, IfOk, IfErr, IfSome, OnOk, OnErr, Some, None, IsSome, IsTrue, ◌↔◌, take};
 ghost use Rattle.std.specs.Option.{option_copied};
 ghost use Rattle.la_set.specs.Links.{lent_items};
+ghost use Rattle.la_set.specs.Agreement.{StartsWith};
+ghost use Rattle.la_set.specs.AgreeWithin.{AgreeWithin};
 ghost use Rattle.la_set.specs.Histories.{history, updates_of, push, IsNext, IsWithinLimit};
-ghost use Rattle.la_set.specs.Representation.{represented, IsRepresentation, IsFront, GrowsFrom};
+ghost use Rattle.la_set.specs.Representation.{represented, IsRepresentation, IsFront, GrowsFrom, lent_lists, AllBegin};
 ghost use Rattle.la_set.specs.Counts.{count_in, HasCounts, within};
 ghost use Rattle.la_set.specs.Deltas.{over, delta_over, further, further_base, rebuilt, pushed, AreNext, AgreesWithin};
 ghost use Rattle.la_set.specs.Deltas.{IsOver, IsRebuildRefusal};
@@ -221,13 +223,33 @@ impl UpdateSet {
         ensures stands { IfOk result (λ _. IsOver self.now delta.now) }
         ensures error { IfErr result (IsRebuildRefusal self.now delta.now) }
     {
-        if !self.has_counts(delta.base()) {
+        self.with_beside(delta, self, Counts::zero())
+    }
+
+    /// What a delta stands for over this set, as by [`UpdateSet::with`], with its errors and its cost,
+    /// beside another set, which is known to have the same within these counts. Of each replica of
+    /// which the base goes no further than they do, the updates beyond it are shared with the longer of
+    /// the two, as far as that has the same. What is known changes no answer: only how much memory is
+    /// shared.
+    pub fn with_beside(
+        &self,
+        delta: &Delta,
+        other: &UpdateSet,
+        known: Counts,
+    ) -> Result<UpdateSet, SetError>
+        requires { AgreeWithin known self.now other.now }
+        ensures ok { IfOk result (λ set. set ≡ rebuilt self.now delta.now) }
+        ensures stands { IfOk result (λ _. IsOver self.now delta.now) }
+        ensures error { IfErr result (IsRebuildRefusal self.now delta.now) }
+    {
+        let base = delta.base();
+        if !self.has_counts(base) {
             return Err(SetError::NoBase);
         }
         if !self.leads_on(delta) {
             return Err(SetError::Gap);
         }
-        Ok(self.rebuilt(delta)?)
+        Ok(self.rebuilt(delta, &self.longer_lists(other, known, base))?)
     }
 
     /// What a delta stands for over this set, as by [`UpdateSet::with`], where it is known that
@@ -242,7 +264,10 @@ impl UpdateSet {
     {
         match self.lent_by(delta) {
             Some(set) => set.copy(),
-            None => self.rebuilt(delta),
+            None => self.rebuilt(
+                delta,
+                &self.longer_lists(self, Counts::zero(), delta.base()),
+            ),
         }
     }
 
@@ -272,6 +297,11 @@ impl UpdateSet {
     {
         // a hint to the prover: no number is over the limit
         let _ = self.allocator();
+        if let More::Whole(set) = &delta.more {
+            // a hint to the prover: no number is over the limit
+            let _ = set.allocator();
+            return true;
+        }
         let mut counts = delta.base().numbers();
         for place in 0..delta.len() {
             let UpdateId { replica, number } = delta.item(place).id;
@@ -286,89 +316,108 @@ impl UpdateSet {
         true
     }
 
-    // What a delta stands for over this set, made anew in one block.
-    fn rebuilt(&self, delta: &Delta) -> Result<UpdateSet, AllocError>
-        requires { IsOver self.now delta.now }
-        ensures { IfOk result (λ set. set ≡ rebuilt self.now delta.now) }
+    // Of each replica this set's updates, or those of another set that is known to have the same within
+    // these counts, where the base lies within them and the other has more.
+    fn longer_lists<'a>(
+        &'a self,
+        other: &'a UpdateSet,
+        known: Counts,
+        base: Counts,
+    ) -> [Lent<'a, Update>; 8]
+        requires there { HasCounts self.now base }
+        requires known { AgreeWithin known self.now other.now }
+        ensures { AllBegin (lent_lists result) self.now base }
     {
-        let mut of = self.fronts(delta.base())?;
-        let mut own = [true; 8];
-        for place in 0..delta.len() {
-            self.add(&mut of, &mut own, delta.item(place))?;
-        }
-        UpdateSet::keeping(self.allocator(), of)
+        [
+            self.longer_list(other, known, base, 0),
+            self.longer_list(other, known, base, 1),
+            self.longer_list(other, known, base, 2),
+            self.longer_list(other, known, base, 3),
+            self.longer_list(other, known, base, 4),
+            self.longer_list(other, known, base, 5),
+            self.longer_list(other, known, base, 6),
+            self.longer_list(other, known, base, 7),
+        ]
     }
 
-    // The lists of what is here within these counts, which share it.
-    fn fronts(&self, counts: Counts) -> Result<[History<Update>; 8], AllocError>
-        requires { HasCounts self.now counts }
+    fn longer_list<'a>(
+        &'a self,
+        other: &'a UpdateSet,
+        known: Counts,
+        base: Counts,
+        replica: u8,
+    ) -> Lent<'a, Update>
+        requires replica { replica < REPLICAS }
+        requires there { HasCounts self.now base }
+        requires known { AgreeWithin known self.now other.now }
+        ensures { StartsWith (lent_items result) (updates_of (within self.now base) replica) }
+    {
+        let mine = self.history_of(replica);
+        if base.of(replica) > known.of(replica) {
+            return mine;
+        }
+        let theirs = other.history_of(replica);
+        if len_of(theirs) > len_of(mine) {
+            theirs
+        } else {
+            mine
+        }
+    }
+
+    // What a delta stands for over this set, made anew in one block, out of lists that begin with what
+    // is here within the base.
+    fn rebuilt(&self, delta: &Delta, lists: &[Lent<'_, Update>; 8]) -> Result<UpdateSet, AllocError>
+        requires over { IsOver self.now delta.now }
+        requires lists { AllBegin (lent_lists lists.now) self.now delta.now.base }
+        ensures { IfOk result (λ set. set ≡ rebuilt self.now delta.now) }
+    {
+        let alloc = self.allocator();
+        let mut of = self.fronts(lists, delta.base())?;
+        let mut own = [true; 8];
+        for place in 0..delta.len() {
+            add(alloc, &mut of, &mut own, lists, delta.item(place))?;
+        }
+        UpdateSet::keeping(alloc, of)
+    }
+
+    // The lists of what is here within these counts, which share these lists.
+    fn fronts(
+        &self,
+        lists: &[Lent<'_, Update>; 8],
+        counts: Counts,
+    ) -> Result<[History<Update>; 8], AllocError>
+        requires there { HasCounts self.now counts }
+        requires lists { AllBegin (lent_lists lists.now) self.now counts }
         ensures keeps { IfOk result (λ of. IsRepresentation of) }
         ensures fronts { IfOk result (λ of. represented of ≡ within self.now counts) }
     {
         // a hint to the prover: no number is over the limit
         let _ = self.allocator();
         Ok([
-            self.front(0, counts)?,
-            self.front(1, counts)?,
-            self.front(2, counts)?,
-            self.front(3, counts)?,
-            self.front(4, counts)?,
-            self.front(5, counts)?,
-            self.front(6, counts)?,
-            self.front(7, counts)?,
+            self.front(lists, 0, counts)?,
+            self.front(lists, 1, counts)?,
+            self.front(lists, 2, counts)?,
+            self.front(lists, 3, counts)?,
+            self.front(lists, 4, counts)?,
+            self.front(lists, 5, counts)?,
+            self.front(lists, 6, counts)?,
+            self.front(lists, 7, counts)?,
         ])
     }
 
-    // Adds an update that comes next to the lists of a set that grows out of fronts of this one's.
-    // Which lists are such fronts still, the flags say.
-    fn add(
-        &self,
-        of: &mut [History<Update>; 8],
-        own: &mut [bool; 8],
-        update: &Update,
-    ) -> Result<(), AllocError>
-        requires grows { GrowsFrom self.now of.old own.old }
-        requires next { IsNext (represented of.old) update.now.id }
-        ensures ok { OnOk result (represented of.new ≡ push (represented of.old) update.now) }
-        ensures grows { OnOk result (GrowsFrom self.now of.new own.new) }
-    {
-        let at = update.id.replica as usize;
-        own[at] = self.lengthen(&mut of[at], own[at], update)?;
-        Ok(())
-    }
-
-    // Adds an update to a list, and answers whether the list is a front of this set's still: the
-    // update is shared where it is the set's own next one, and else copied.
-    fn lengthen(
-        &self,
-        list: &mut History<Update>,
-        own: bool,
-        update: &Update,
-    ) -> Result<bool, AllocError>
-        requires known { update.now.id.replica < REPLICAS }
-        requires room { length list.old < MAX_NUMBER }
-        requires own { IsTrue own → IsFront list.old (updates_of self.now update.now.id.replica) }
-        ensures ok { OnOk result (list.new ≡ list.old ++ update.now ∷ []) }
-        ensures own { IfOk result (λ own.
-            IsTrue own → IsFront list.new (updates_of self.now update.now.id.replica)) }
-    {
-        let mine = self.history_of(update.id.replica);
-        let len = len_of(list.link());
-        if own && has_at(mine, len, update) {
-            *list = History::front_of(mine, len + 1)?;
-            return Ok(true);
-        }
-        list.push(self.allocator(), update.copy()?)?;
-        Ok(false)
-    }
-
     // A replica's updates within these counts.
-    fn front(&self, replica: u8, counts: Counts) -> Result<History<Update>, AllocError>
+    fn front(
+        &self,
+        lists: &[Lent<'_, Update>; 8],
+        replica: u8,
+        counts: Counts,
+    ) -> Result<History<Update>, AllocError>
         requires known { replica < REPLICAS }
         requires there { HasCounts self.now counts }
+        requires lists { AllBegin (lent_lists lists.now) self.now counts }
         ensures { IfOk result (λ front. front ≡ updates_of (within self.now counts) replica) }
     {
-        History::front_of(self.history_of(replica), counts.of(replica) as usize)
+        History::front_of(lists[replica as usize], counts.of(replica) as usize)
     }
 
     // Copies of the updates over this base, in order.
@@ -431,6 +480,48 @@ impl Delta {
     }
 }
 
+// Adds an update that comes next to the lists of a set that grows out of fronts of these. Which lists
+// are such fronts still, the flags say.
+fn add(
+    alloc: Global,
+    of: &mut [History<Update>; 8],
+    own: &mut [bool; 8],
+    lists: &[Lent<'_, Update>; 8],
+    update: &Update,
+) -> Result<(), AllocError>
+    requires grows { GrowsFrom (lent_lists lists.now) of.old own.old }
+    requires next { IsNext (represented of.old) update.now.id }
+    ensures ok { OnOk result (represented of.new ≡ push (represented of.old) update.now) }
+    ensures grows { OnOk result (GrowsFrom (lent_lists lists.now) of.new own.new) }
+{
+    let at = update.id.replica as usize;
+    own[at] = lengthen(alloc, &mut of[at], own[at], lists[at], update)?;
+    Ok(())
+}
+
+// Adds an update to a list, and answers whether the list still is a front of another: the update is
+// shared where it is that one's next, and else copied.
+fn lengthen(
+    alloc: Global,
+    list: &mut History<Update>,
+    own: bool,
+    of: Lent<'_, Update>,
+    update: &Update,
+) -> Result<bool, AllocError>
+    requires room { length list.old < MAX_NUMBER }
+    requires own { IsTrue own → IsFront list.old (lent_items of) }
+    ensures ok { OnOk result (list.new ≡ list.old ++ update.now ∷ []) }
+    ensures own { IfOk result (λ own. IsTrue own → IsFront list.new (lent_items of.entry)) }
+{
+    let len = list.len() as usize;
+    if own && has_at(of, len, update) {
+        *list = History::front_of(of, len + 1)?;
+        return Ok(true);
+    }
+    list.push(alloc, update.copy()?)?;
+    Ok(false)
+}
+
 // Copies of updates, in order.
 fn copied(updates: &Updates) -> Result<Updates, AllocError>
     ensures room { updates.now ≡ [] → IsOk result }
@@ -460,7 +551,7 @@ fn rest_of(alloc: Global, list: Lent<'_, Update>, len: usize) -> Result<Vec<Upda
 }
 
 // Whether a list has this update at a place.
-fn has_at(list: Lent<'_, Update>, place: usize, update: &Update) -> bool
+pub(crate) fn has_at(list: Lent<'_, Update>, place: usize, update: &Update) -> bool
     ensures { IsTrue result ↔ (slice_get (lent_items list.entry) place ≡ Some update.now) }
 {
     match item_at(list, place) {

@@ -1,12 +1,13 @@
 // Callers that know nothing but the contracts: each makes a call twice, or on two equal values, or beside
 // another that is to answer alike, and promises equal answers. Where memory may run out for one call and
 // not for the other, it promises them where both succeed; and where both are refused, one refusal.
-ghost use Rattle.std.specs.Prelude.{◌≡◌, ◌<◌, ◌↔◌, map, IsTrue, IfOk, IfErr, OnOk, OnErr};
+ghost use Rattle.std.specs.Prelude.{◌≡◌, ◌<◌, ◌↔◌, ℕ, map, IsTrue, IfOk, IfErr, OnOk, OnErr};
 ghost use Rattle.std.specs.Prelude.{option_copied, IsSome};
 ghost use Rattle.la_set.specs.declared.error.SetError.TheVariants.{Memory};
 ghost use Rattle.la_set.specs.Inclusion.{IsSubset, AreComparable};
 ghost use Rattle.la_set.specs.Join.{IsCompatible};
-ghost use Rattle.la_set.specs.Counts.{HasCounts, within};
+ghost use Rattle.la_set.specs.AgreeWithin.{AgreeWithin};
+ghost use Rattle.la_set.specs.Counts.{count_in, HasCounts, within};
 ghost use Rattle.la_set.specs.Deltas.{IsOver, AgreesWithin};
 
 use la_set::{
@@ -538,6 +539,30 @@ fn with_is_exact(
     ensures refusal { IfErr result.0 (λ e. IfErr result.1 (λ f. e ≡ f)) }
 {
     (set.with(delta), set.with(delta))
+}
+
+// Which counts are known, and of what other set, changes no answer.
+fn with_beside_is_exact(
+    set: &UpdateSet,
+    delta: &Delta,
+    other: &UpdateSet,
+    known: Counts,
+) -> (Result<UpdateSet, SetError>, Result<UpdateSet, SetError>)
+    requires { AgreeWithin known set.now other.now }
+    ensures set { IfOk result.0 (λ a. IfOk result.1 (λ b. a ≡ b)) }
+    ensures refusal { IfErr result.0 (λ e. IfErr result.1 (λ f. e ≡ f)) }
+{
+    (set.with_beside(delta, other, known), set.with(delta))
+}
+
+fn agreement_is_exact(set: &UpdateSet, other: &UpdateSet, known: Counts) -> (Counts, Counts)
+    requires { AgreeWithin known set.now other.now }
+    ensures { (r : ℕ) → count_in result.0 r ≡ count_in result.1 r }
+{
+    (
+        set.agreement(other, known),
+        set.agreement(other, Counts::zero()),
+    )
 }
 
 fn with_agreeing_is_exact(

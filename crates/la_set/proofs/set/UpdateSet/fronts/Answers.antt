@@ -11,7 +11,7 @@ returns-clause-keeps c =
     (eight_each t _ _ _ _ _ _ _ _ c.in_ok-front.ensures c.in_ok-front-2.ensures c.in_ok-front-3.ensures
     c.in_ok-front-4.ensures c.in_ok-front-5.ensures c.in_ok-front-6.ensures c.in_ok-front-7.ensures
     c.in_ok-front-8.ensures)
-    (λ r. omega (arith, count-within s c.args.counts c.requires r, c.requires r, c.allocator.ensures r))
+    (λ r. omega (arith, count-within s c.args.counts c.requires.there r, c.requires.there r, c.allocator.ensures r))
 
 pub returns-clause-fronts : goal.returns-clause-fronts
 returns-clause-fronts c =

@@ -1,6 +1,7 @@
 use Rattle.std.proofs.Common.{refl, ap, sym, ◌∙◌, subst}
 use Rattle.la_set.specs.Histories.{push, IsNext}
 use Rattle.la_set.specs.Counts.{within}
+use Rattle.la_set.specs.Representation.{lent_lists, AllBegin}
 use Rattle.la_set.proofs.Pushing.{next_at, pushed_more}
 use Rattle.la_set.proofs.Growing.{fronts-grow}
 use Rattle.la_set.proofs.set.UpdateSet.rebuilt.Goals as goal
@@ -10,7 +11,10 @@ loop-place-init c =
     let x = c.args.self.now in
     record {
       so_far = c.in_ok-of.ensures.fronts ∙ ap (within x) c.base.ensures;
-      grows = fronts-grow x c.base.result c.in_ok-of.of _ refl c.in_ok-of.ensures.keeps c.in_ok-of.ensures.fronts;
+      grows =
+          fronts-grow x c.base.result (lent_lists c.args.lists.now) c.in_ok-of.of _ refl
+          (subst (AllBegin (lent_lists c.args.lists.now) x) (sym c.base.ensures) c.requires.lists)
+          c.in_ok-of.ensures.keeps c.in_ok-of.ensures.fronts;
     }
 
 pub add-requires-clause-next : goal.add-requires-clause-next
@@ -18,7 +22,7 @@ add-requires-clause-next c =
     let u = c.item.result.now in
     subst (λ s. IsNext s u.id) (sym c.loop-place.invariant.so_far)
     (next_at c.args.delta.now.more (within c.args.self.now c.args.delta.now.base) c.loop-place.place u c.item.ensures
-    c.requires.next)
+    c.requires.over.next)
 
 pub loop-place-preserved : goal.loop-place-preserved
 loop-place-preserved c =
