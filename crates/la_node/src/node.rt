@@ -31,7 +31,7 @@ ghost use Rattle.la_node.specs.Nodes.{IsStartRefusal, IsProposeRefusal, IsObserv
 ghost use Rattle.la_node.specs.Nodes.{outcome_due, OutcomesStayIn, ReturnsIn, LeftUntoldNode};
 
 use crate::link::tells_nothing;
-use crate::participant::{for_memory, outcome_by, returned, take_prepared};
+use crate::participant::{for_memory, outcome_by, returned, take_noting, take_prepared};
 use crate::resumed::are_participants;
 use crate::{Config, Done, Standing, WorldError};
 use la_commit::{Fresh, MAX_COMMITS, Outcome, first_instance};
@@ -364,7 +364,7 @@ impl<B: Replicated> Node<B> {
     {
         let own = self.replica.own();
         let (out, change) = self.replica.prepare_beyond(message, known)?;
-        let (done, learnt) = take_prepared(&mut self.replica, message, out, change)?;
+        let (done, learnt) = take_noting(&mut self.replica, message, out, change)?;
         let outcome = outcome_by(message.instance, own, learnt.as_ref());
         Ok(Received { done, outcome })
     }

@@ -86,6 +86,27 @@ pub fn take_prepared(
     }
 }
 
+// The same, and notes how far the replica's sets agree, where one of them grows by it.
+pub fn take_noting(
+    receiver: &mut Replica,
+    message: &Message,
+    out: Out,
+    change: Change,
+) -> Result<(Done, Option<UpdateSet>), AllocError>
+    requires { IsPreparedReceipt receiver.old message.now out change }
+    ensures taken { IfOk result (λ taken. TakesAs receiver.old message.now taken.0 receiver.new) }
+    ensures learnt { IfOk result (λ taken. taken.1 ≡ learnt_in taken.0.said) }
+    ensures learning { OnErr result (IsSome (learnt_in out.said)) }
+    ensures err { OnErr result (receiver.new ≡ receiver.old) }
+{
+    let grows = change.accepted.is_some() || change.view.is_some();
+    let taken = take_prepared(receiver, message, out, change)?;
+    if grows {
+        receiver.note_agreement();
+    }
+    Ok(taken)
+}
+
 // Commits what a message in this instance led to, and the second vote to which that leads.
 fn commit_both(
     receiver: &mut Replica,

@@ -7,7 +7,7 @@ use Rattle.la_set.specs.Inclusion.{IsSubset}
 use Rattle.la_set.specs.AgreeWithin.{AgreeWithin}
 use Rattle.la_set.specs.Counts.{counts_of}
 use Rattle.la_set.proofs.lemmas.WithinCounts.{agree_by}
-use Rattle.la_set.proofs.lemmas.Theorems.{subset-refl}
+use Rattle.la_set.proofs.lemmas.Theorems.{subset-refl, subset-join_left}
 use Rattle.la_acceptor.specs.declared.reply.Reply.TheVariants as replied
 use Rattle.la_proposer.specs.Inputs.{Submitted, Replied}
 use Rattle.la_proposer.proofs.lemmas.Growing.{inputs_grow}
@@ -35,6 +35,13 @@ body_updates s x view m (No accepted) known =
     inputs_grow x.proposer (Replied m.from m.ballot (replied.No accepted) ∷ []) known
 body_updates s x view m (Tell told) known = subset-refl x.proposer.updates
 
+body_accepts : (s : Sender) (x : Instance) (view : Histories) (m : Message) (b : Body)
+    → IsSubset x.acceptor (receives_body s x view m b).at.acceptor
+body_accepts s x view m (Offer offered) = subset-join_left x.acceptor offered
+body_accepts s x view m Yes = subset-refl x.acceptor
+body_accepts s x view m (No accepted) = subset-refl x.acceptor
+body_accepts s x view m (Tell told) = subset-refl x.acceptor
+
 module _ (x : Instance) (view : Histories) (out : Out) (c : Change) where
   abbrev after : Histories
   after = (proposer_after x.proposer c.proposer).updates
@@ -54,6 +61,8 @@ module _ (x : Instance) (view : Histories) (out : Out) (c : Change) where
       subst (IsSubset x.proposer.updates) (ap (λ (z : Step). z.at.proposer.updates) step)
       (body_updates s x view m m.body known) in
       record {
+        accepted_grows =
+            subst (IsSubset x.acceptor) (ap (λ (z : Step). z.at.acceptor) step) (body_accepts s x view m m.body);
         view_grows = subst (IsSubset view) (ap (λ (z : Step). z.view) step) (body_grows s x view m m.body);
         updates_grow = grows;
         agreed = said grows c.agreed says;
@@ -62,6 +71,8 @@ module _ (x : Instance) (view : Histories) (out : Out) (c : Change) where
   pub submission_leaves : (s : Sender) (d : ObjectOp) → x.proposer.own < 8
       → submits s x view d ≡ step_by x view (whole_out out) c → c.agreed ≡ None → LeavesAgreeing view x c
   submission_leaves s d known step none = record {
+    accepted_grows =
+        subst (IsSubset x.acceptor) (ap (λ (z : Step). z.at.acceptor) step) (subset-refl x.acceptor);
     view_grows = subst (IsSubset view) (ap (λ (z : Step). z.view) step) (subset-refl view);
     updates_grow =
         subst (IsSubset x.proposer.updates) (ap (λ (z : Step). z.at.proposer.updates) step)

@@ -1,5 +1,5 @@
 -- What the test decides by which a replica is taken up again.
-use Rattle.std.proofs.Common.{◌≡◌, ℕ, ◌≤◌, true, List, [], ◌∷◌, length, slice_get, IsSomeAnd, refl, sym, subst, arith, nat_eq, leb}
+use Rattle.std.proofs.Common.{◌≡◌, ℕ, ◌≤◌, true, List, [], ◌∷◌, length, slice_get, IsSomeAnd, refl, sym, subst, subst₂, arith, nat_eq, leb}
 use Rattle.std.specs.Bool.{Decides}
 use Rattle.std.specs.List.{list_all}
 use Rattle.std.specs.Cmp.Lexicographic.{pointwise}
@@ -14,7 +14,7 @@ use Rattle.la_set.proofs.lemmas.WithinCounts.{none_agreed}
 use Rattle.la_replica.specs.declared.instance.Instance.{Instance}
 use Rattle.la_replica.specs.ReplicaState.{ReplicaState}
 use Rattle.la_replica.specs.Invariant.{IsOf, IsReplicaState}
-use Rattle.la_replica.specs.Fields.{AgreesSoFar}
+use Rattle.la_replica.specs.Fields.{AgreesSoFar, AgreesAccepted, AcceptedSoFar}
 use Rattle.la_replica.specs.Resuming.{is_instance_of, may_resume_replica, IsResumableReplica}
 
 Decides-leb : (a b : ℕ) → Decides (leb a b) (a ≤ b)
@@ -46,13 +46,23 @@ first_agrees : (xs : List Instance) (view : Histories) → 1 ≤ length xs
 first_agrees [] view some = absurd (omega arith)
 first_agrees (x ∷ xs) view some = none_agreed view x.proposer.updates
 
--- the invariant of what is taken up again: within no counts the view and a ballot's set agree
-pub resumes : (r : ReplicaState) (none : Counts) → none ≡ zero_counts → may_resume_replica r ≡ true
-    → IsReplicaState r × AgreesSoFar none r
-resumes r none is e =
+first_accepted : (xs : List Instance) (view : Histories) → 1 ≤ length xs
+    → IsSomeAnd (slice_get xs 0) (AgreesAccepted zero_counts zero_counts view)
+first_accepted [] view some = absurd (omega arith)
+first_accepted (x ∷ xs) view some = (none_agreed view x.acceptor, none_agreed x.acceptor x.proposer.updates)
+
+-- the invariant of what is taken up again: within no counts all sets agree
+pub resumes : (r : ReplicaState) (none of_view of_ballot : Counts) → none ≡ zero_counts → of_view ≡ zero_counts
+    → of_ballot ≡ zero_counts → may_resume_replica r ≡ true
+    → IsReplicaState r × (AgreesSoFar none r × AcceptedSoFar of_view of_ballot r)
+resumes r none of_view of_ballot is view_is ballot_is e =
     let may = (may_resume_replica-Decides r).0 e in (
       may.is_replica,
-      subst (λ n. AgreesSoFar n r) (sym is) (first_agrees r.instances r.view may.has_first),
+      (
+        subst (λ n. AgreesSoFar n r) (sym is) (first_agrees r.instances r.view may.has_first),
+        subst₂ (λ v b. AcceptedSoFar v b r) (sym view_is) (sym ballot_is)
+            (first_accepted r.instances r.view may.has_first),
+      ),
     )
 
 has_first : (xs : List Instance) (P : Instance → Type 0) → IsSomeAnd (slice_get xs 0) P → 1 ≤ length xs

@@ -54,9 +54,10 @@ step_by x view out c = step_of out (at_after x c) (view_next view c.view)
 
 -- ## How far the view agrees with the sets of instance 0's ballots
 
--- what a change leaves: the view and the ballot's set have only grown; and where it says how far they
--- agree, so far they do
+-- what a change leaves: the view, what is accepted and the ballot's set have only grown; and where it
+-- says how far the view and the ballot's set agree, so far they do
 pub record LeavesAgreeing (view : Histories) (x : Instance) (c : Change) : Type 0 where
+  pub accepted_grows : IsSubset x.acceptor (accepted_next x.acceptor c.accepted)
   pub view_grows : IsSubset view (view_next view c.view)
   pub updates_grow : IsSubset x.proposer.updates (proposer_after x.proposer c.proposer).updates
   pub agreed : IfSome c.agreed (λ b.

@@ -1,9 +1,10 @@
 ghost use Rattle.std.specs.Prelude.{◌≡◌, ◌≢◌, true, false, ◌<◌, ◌≤◌, length, [], ◌∷◌, IsOk, IfOk};
-ghost use Rattle.std.specs.Prelude.{IfErr, OnOk, OnErr, Some, None, if◌then◌else◌};
+ghost use Rattle.std.specs.Prelude.{IfErr, IfSome, OnOk, OnErr, Some, None, if◌then◌else◌};
 ghost use Rattle.std.specs.Option.{option_copied};
 ghost use Rattle.la_set.specs.Histories.{Histories};
 ghost use Rattle.la_set.specs.Join.{IsCompatible};
 ghost use Rattle.la_set.specs.Counts.{HasCounts, counts_of};
+ghost use Rattle.la_set.specs.AgreeWithin.{AgreeWithin};
 ghost use Rattle.la_acceptor.specs.declared.reply.Reply.TheVariants as replied;
 ghost use Rattle.la_acceptor.specs.Answer.{accepted_next};
 ghost use Rattle.la_proposer.specs.declared.proposer.TheConstants.{MAX_CAP};
@@ -108,13 +109,17 @@ impl Instance {
         Ok((Out { said, mail }, change))
     }
 
-    // The delta of a message that is looked at, and the set over which it is.
+    // The delta of a message that is looked at, the set over which it is, and the one beside that: of
+    // what is accepted and the ballot's set the other one.
     fn told<'a>(&'a self, message: &'a Message) -> Option<Told<'a>>
-        ensures { lent_told result ≡ told_at self.now message.now }
+        ensures told { lent_told result ≡ told_at self.now message.now }
+        ensures beside { (known : Counts) → AgreeWithin known self.now.acceptor self.now.proposer.updates
+            → IfSome result (λ t. AgreeWithin known t.over.now t.beside.now) }
     {
         match &message.body {
             Body::Offer(delta) => Some(Told {
                 over: self.acceptor.accepted(),
+                beside: self.proposer.updates(),
                 delta,
             }),
             Body::No(delta) => {
@@ -123,6 +128,7 @@ impl Instance {
                 }
                 Some(Told {
                     over: self.proposer.updates(),
+                    beside: self.acceptor.accepted(),
                     delta,
                 })
             }
@@ -130,15 +136,21 @@ impl Instance {
         }
     }
 
-    // What that delta stands for.
-    pub(crate) fn rebuilt(&self, message: &Message) -> Result<Option<UpdateSet>, SetError>
+    // What that delta stands for. What is accepted and the ballot's set are known to have the same
+    // within these counts.
+    pub(crate) fn rebuilt(
+        &self,
+        message: &Message,
+        known: Counts,
+    ) -> Result<Option<UpdateSet>, SetError>
+        requires { AgreeWithin known self.now.acceptor self.now.proposer.updates }
         ensures ok { IfOk result (λ set. set ≡ rebuilt_at self.now message.now) }
         ensures stands { IfOk result (λ _. StandsAt self.now message.now) }
         ensures free { told_at self.now message.now ≡ None → IsOk result }
         ensures error { IfErr result (IsUnbuilt self.now message.now) }
     {
         match self.told(message) {
-            Some(told) => Ok(Some(told.over.with(told.delta)?)),
+            Some(told) => Ok(Some(told.over.with_beside(told.delta, told.beside, known)?)),
             None => Ok(None),
         }
     }

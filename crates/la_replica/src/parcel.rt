@@ -1,4 +1,5 @@
 ghost use Rattle.std.specs.Prelude.{◌≡◌, IsOk, IfOk, IfErr};
+ghost use Rattle.la_set.specs.AgreeWithin.{AgreeWithin};
 ghost use Rattle.la_replica.specs.Parcels.{wrapped, wrapped_body, IsTellWithinLimit, TellsNothing};
 ghost use Rattle.la_replica.specs.Parcels.{unwrapped, unwrapped_body, Unwraps, IsShut, base_of_told};
 
@@ -65,8 +66,15 @@ impl Content {
         })
     }
 
-    // What it says as a message does, a told set rebuilt over this one.
-    fn over(self, set: &UpdateSet) -> Result<Body, SetError>
+    // What it says as a message does, a told set rebuilt over this one, beside another that is known to
+    // have the same within these counts.
+    fn over_beside(
+        self,
+        set: &UpdateSet,
+        other: &UpdateSet,
+        known: Counts,
+    ) -> Result<Body, SetError>
+        requires { AgreeWithin known set.now other.now }
         ensures ok { IfOk result (λ body. body ≡ unwrapped_body set.now self) }
         ensures stands { IfOk result (λ _. Unwraps set.now self) }
         ensures error { IfErr result (IsShut set.now self) }
@@ -75,7 +83,7 @@ impl Content {
             Content::Offer(delta) => Ok(Body::Offer(delta)),
             Content::Yes => Ok(Body::Yes),
             Content::No(delta) => Ok(Body::No(delta)),
-            Content::Tell(delta) => Ok(Body::Tell(set.with(&delta)?)),
+            Content::Tell(delta) => Ok(Body::Tell(set.with_beside(&delta, other, known)?)),
         }
     }
 }
@@ -141,6 +149,22 @@ impl Parcel {
         ensures stands { IfOk result (λ _. Unwraps set.now self.content) }
         ensures error { IfErr result (IsShut set.now self.content) }
     {
+        self.over_beside(set, set, Counts::zero())
+    }
+
+    // The same beside another set, which is known to have the same within these counts: a told set
+    // shares its updates.
+    pub(crate) fn over_beside(
+        self,
+        set: &UpdateSet,
+        other: &UpdateSet,
+        known: Counts,
+    ) -> Result<Message, SetError>
+        requires { AgreeWithin known set.now other.now }
+        ensures ok { IfOk result (λ message. message ≡ unwrapped set.now self) }
+        ensures stands { IfOk result (λ _. Unwraps set.now self.content) }
+        ensures error { IfErr result (IsShut set.now self.content) }
+    {
         let Parcel {
             instance,
             from,
@@ -148,7 +172,7 @@ impl Parcel {
             ballot,
             content,
         } = self;
-        let body = content.over(set)?;
+        let body = content.over_beside(set, other, known)?;
         Ok(Message {
             instance,
             from,

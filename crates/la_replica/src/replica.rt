@@ -3,6 +3,7 @@ ghost use Rattle.std.specs.Prelude.{[], true, Some, None, IsOk, IfOk, IfErr, IfS
 ghost use Rattle.std.specs.Option.{option_copied};
 ghost use Rattle.la_set.specs.Histories.{empty};
 ghost use Rattle.la_set.specs.Counts.{within};
+ghost use Rattle.la_set.specs.AgreeWithin.{AgreeWithin};
 ghost use Rattle.la_set.specs.Inclusion.{IsSubset};
 ghost use Rattle.la_proposer.specs.declared.proposer.TheConstants.{MAX_CAP};
 ghost use Rattle.la_proposer.specs.Majority.{votes_of};
@@ -54,6 +55,10 @@ pub struct Replica {
     view: UpdateSet,
     // within which counts the view and the set of instance 0's ballot are known to have the same
     agreed: Counts,
+    // the same of the view and what is accepted in instance 0
+    agreed_view: Counts,
+    // and of that and the ballot's set
+    agreed_ballot: Counts,
 }
 
 impl Model for Replica {
@@ -98,6 +103,8 @@ impl Replica {
             instances,
             view: UpdateSet::new(alloc),
             agreed: Counts::zero(),
+            agreed_view: Counts::zero(),
+            agreed_ballot: Counts::zero(),
         })
     }
 
@@ -105,7 +112,7 @@ impl Replica {
     /// on, what it keeps there, and the view. `None` comes exactly where no replica has them: where `own`
     /// is out of the group, there is no instance, or more than 33, or the proposer of one is not this
     /// replica of this group. Then the parts are dropped. It takes no memory, and the cost is that of a
-    /// look at each instance.
+    /// look at each instance, and of [`Replica::note_agreement`].
     pub fn resumed(
         votes: Votes,
         own: u8,
@@ -117,13 +124,17 @@ impl Replica {
         if !may_resume(&votes, own, &instances) {
             return None;
         }
-        Some(Replica {
+        let mut replica = Replica {
             votes,
             own,
             instances,
             view,
             agreed: Counts::zero(),
-        })
+            agreed_view: Counts::zero(),
+            agreed_ballot: Counts::zero(),
+        };
+        replica.note_agreement();
+        Some(replica)
     }
 
     /// What it keeps of each instance, from 0 on, at constant cost. Its contract also tells that
@@ -146,6 +157,8 @@ impl Replica {
             instances: copy_instances(&self.instances)?,
             view: self.view.copy()?,
             agreed: self.agreed,
+            agreed_view: self.agreed_view,
+            agreed_ballot: self.agreed_ballot,
         })
     }
 
@@ -311,6 +324,7 @@ impl Replica {
     {
         let (out, change) = self.prepare(message)?;
         self.commit(change);
+        self.note_agreement();
         Ok(out)
     }
 
@@ -397,6 +411,23 @@ impl Replica {
         }
     }
 
+    /// Notes how far what is accepted in instance 0 agrees with the view and with its ballot's set: what
+    /// is received next shares the memory of its updates with them, as far as is noted. No answer
+    /// changes by it. Who commits what it prepared itself may call it afterwards;
+    /// [`Replica::receive`] and [`Replica::receive_parcel`] do so.
+    ///
+    /// It takes no memory. The cost is that of comparing what these have gained since the last note.
+    pub fn note_agreement(&mut self)
+        ensures { self.new ≡ self.old }
+    {
+        let first = &self.instances[0];
+        let accepted = first.acceptor.accepted();
+        let view = self.view.agreement(accepted, self.agreed_view);
+        let ballot = accepted.agreement(first.proposer.updates(), self.agreed_ballot);
+        self.agreed_view = view;
+        self.agreed_ballot = ballot;
+    }
+
     /// What a timer should send once more where answers stay away. Of each instance, in order: while
     /// a ballot is open, its offer to each replica of the group, itself among them, of which no reply
     /// has counted there; then, in instance 0, the tells of the set that was learnt last. Nothing
@@ -437,7 +468,8 @@ impl Replica {
         }
         let nothing = UpdateSet::new(*self.instances.allocator());
         let seen = self.view_of(parcel.instance, &nothing);
-        match parcel.over(seen) {
+        let (beside, known) = self.beside_view(parcel.instance, seen);
+        match parcel.over_beside(seen, beside, known) {
             Ok(message) => Ok(message),
             Err(refused) => Err(ReplicaError::from(refused)),
         }
@@ -449,6 +481,19 @@ impl Replica {
         ensures { result.now ≡ view_of self.now instance }
     {
         if instance == 0 { &self.view } else { nothing }
+    }
+
+    // A set that is known to have, within these counts, what the view has of an instance: what is
+    // accepted in it, where it is 0.
+    fn beside_view<'a>(&'a self, instance: u8, seen: &'a UpdateSet) -> (&'a UpdateSet, Counts)
+        requires { seen.now ≡ view_of self.now instance }
+        ensures { AgreeWithin result.1 seen.now result.0.now }
+    {
+        if instance == 0 {
+            (self.instances[0].acceptor.accepted(), self.agreed_view)
+        } else {
+            (seen, Counts::zero())
+        }
     }
 
     /// Receives a parcel, honest or not: as [`Replica::receive`] does the message that it is here
@@ -476,6 +521,7 @@ impl Replica {
     {
         let (out, change) = self.prepare_parcel(parcel)?;
         self.commit(change);
+        self.note_agreement();
         Ok(out)
     }
 
@@ -510,9 +556,22 @@ impl Replica {
         if message.from as usize >= self.votes.len() || message.to != self.own {
             return Err(ReplicaError::NoSuchReplica);
         }
+        let known = self.agreed_in(message.instance);
         match self.instances.get(message.instance as usize) {
-            Some(at) => Ok(at.rebuilt(message)?),
+            Some(at) => Ok(at.rebuilt(message, known)?),
             None => Err(ReplicaError::NoSuchInstance),
+        }
+    }
+
+    // Within which counts what is accepted in an instance and its ballot's set are known to have the same.
+    fn agreed_in(&self, instance: u8) -> Counts
+        ensures { IfSome (slice_get self.now.instances instance)
+            (λ x. AgreeWithin result x.acceptor x.proposer.updates) }
+    {
+        if instance == 0 {
+            self.agreed_ballot
+        } else {
+            Counts::zero()
         }
     }
 

@@ -33,10 +33,11 @@ pub enum WholeBody<'a> {
     Tell(&'a UpdateSet),
 }
 
-/// A delta that a message tells, and the set over which it is.
+/// A delta that a message tells, the set over which it is, and one that has much of the same.
 #[derive(Clone, Copy)]
 pub struct Told<'a> {
     pub over: &'a UpdateSet,
+    pub beside: &'a UpdateSet,
     pub delta: &'a Delta,
 }
 

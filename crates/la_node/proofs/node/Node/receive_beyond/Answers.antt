@@ -11,8 +11,8 @@ use Rattle.la_node.proofs.Returning.{taken_stays, taken_returns, told_by}
 use Rattle.la_node.proofs.lemmas.Stepping.{received_steps}
 use Rattle.la_node.proofs.node.Node.receive_beyond.Goals as goal
 
-pub take_prepared-requires : goal.take_prepared-requires
-take_prepared-requires g c =
+pub take_noting-requires : goal.take_noting-requires
+take_noting-requires g c =
     let r = c.self.inside.replica in
     let m = c.args.message.now in
     let lt =
@@ -28,20 +28,20 @@ pub invariant_of-self-2 : goal.invariant_of-self-2
 invariant_of-self-2 g c =
     let n : NodeState = record { replica = c.self.inside.replica; shelf = c.self.inside.shelf } in
     (receipt_keeps n (received_in c.self.inside.replica c.args.message.now) (whole_done c.in_ok-done.done)
-    c.take_prepared.new.receiver c.self.invariant c.in_ok-done.ensures.taken.step).0
+    c.take_noting.new.receiver c.self.invariant c.in_ok-done.ensures.taken.step).0
 
 pub returns-clause-grows : goal.returns-clause-grows
 returns-clause-grows g c =
     let n : NodeState = record { replica = c.self.inside.replica; shelf = c.self.inside.shelf } in
-    subst (λ (q : NodeState). IsSubset q.replica.view c.take_prepared.new.receiver.view) c.self.view_is
+    subst (λ (q : NodeState). IsSubset q.replica.view c.take_noting.new.receiver.view) c.self.view_is
     (receipt_keeps n (received_in c.self.inside.replica c.args.message.now) (whole_done c.in_ok-done.done)
-    c.take_prepared.new.receiver c.self.invariant c.in_ok-done.ensures.taken.step).1
+    c.take_noting.new.receiver c.self.invariant c.in_ok-done.ensures.taken.step).1
 
 pub returns-clause-stays : goal.returns-clause-stays
 returns-clause-stays g c =
-    subst (λ (q : NodeState). OutcomesStayIn q.replica c.take_prepared.new.receiver) c.self.view_is
+    subst (λ (q : NodeState). OutcomesStayIn q.replica c.take_noting.new.receiver) c.self.view_is
     (taken_stays c.self.inside.replica (received_in c.self.inside.replica c.args.message.now)
-    (whole_done c.in_ok-done.done) c.take_prepared.new.receiver c.self.invariant.participates
+    (whole_done c.in_ok-done.done) c.take_noting.new.receiver c.self.invariant.participates
     c.in_ok-done.ensures.taken.step)
 
 pub returns-clause-returns : goal.returns-clause-returns
@@ -52,7 +52,7 @@ returns-clause-returns g c =
     told_by i c.own-own.result c.self.inside.replica.own _ _ done.said c.outcome_by-outcome.result
     c.outcome_by-outcome.ensures c.as_ref.ensures.value c.in_ok-done.ensures.learnt c.own-own.ensures.own in
     taken_returns c.self.inside.replica (received_in c.self.inside.replica c.args.message.now) (whole_done done)
-    c.take_prepared.new.receiver c.outcome_by-outcome.result c.self.invariant.participates
+    c.take_noting.new.receiver c.outcome_by-outcome.result c.self.invariant.participates
     c.in_ok-done.ensures.taken.step
     told
 
@@ -62,7 +62,7 @@ returns-clause-step g c =
     let m = c.args.message.now in
     let done = c.in_ok-done.done in
     let outcome = c.outcome_by-outcome.result in
-    let after = c.take_prepared.new.receiver in
+    let after = c.take_noting.new.receiver in
     let due =
     told_by m.instance c.own-own.result r.own _ _ done.said outcome
     c.outcome_by-outcome.ensures c.as_ref.ensures.value c.in_ok-done.ensures.learnt c.own-own.ensures.own in
