@@ -4,7 +4,7 @@ ghost use Rattle.la_replica.specs.Parcels.{IsTellWithinLimit};
 ghost use Rattle.la_replica.specs.Rebased.{IsOfferOver};
 ghost use Rattle.std.specs.List.{list_all};
 ghost use Rattle.la_node.specs.Links.{no_links, known_of, known_with, is_silent, believed_of, covers, is_owed};
-ghost use Rattle.la_node.specs.Links.{letter_of, letters_of, told_on, AreOffersOver, is_counted, tells_nothing};
+ghost use Rattle.la_node.specs.Links.{letter_of, letters_of, told_believed, told_on, AreOffersOver, is_counted, tells_nothing};
 
 use crate::Node;
 use la_object::Replicated;
@@ -179,12 +179,21 @@ impl Links {
         ensures over { IfOk result (λ _. IsOfferOver (told_on self.now message).body) }
         ensures limit { IfOk result (λ _. IsTellWithinLimit message.body) }
     {
-        let believed = self.believed(message.to);
         Ok(Letter {
             replicas: node.replicas(),
             progress: node.progress(),
-            parcel: Parcel::new(message.further(believed.accepted), believed.view)?,
+            parcel: self.parcel(message)?,
         })
+    }
+
+    // A message as a parcel, over what its receiver is believed to have.
+    fn parcel(&self, message: Message) -> Result<Parcel, AllocError>
+        ensures ok { IfOk result (λ parcel. parcel ≡ told_believed (believed_of self.now message.to) message) }
+        ensures over { IfOk result (λ _. IsOfferOver (told_on self.now message).body) }
+        ensures limit { IfOk result (λ _. IsTellWithinLimit message.body) }
+    {
+        let believed = self.believed(message.to);
+        Parcel::new(message.further(believed.accepted), believed.view)
     }
 
     /// Mail of a node as letters, in order, as [`Links::letter`] makes them: none is copied. After a refusal the
@@ -198,9 +207,14 @@ impl Links {
         ensures ok { IfOk result (λ letters. letters.items ≡ letters_of self.now node.now.replica mail) }
         ensures over { IfOk result (λ _. AreOffersOver self.now mail) }
     {
+        let (replicas, progress) = (node.replicas(), node.progress());
         let mut letters = Vec::with_capacity(alloc, mail.len())?;
         for message in SmallVec::from(mail) {
-            letters.push_reserved(self.letter(node, message)?);
+            letters.push_reserved(Letter {
+                replicas,
+                progress,
+                parcel: self.parcel(message)?,
+            });
         }
         Ok(letters)
     }
