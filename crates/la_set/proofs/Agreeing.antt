@@ -1,12 +1,12 @@
 -- How far two sets agree, replica by replica.
-use Rattle.std.proofs.Common.{◌≡◌, ◌≢◌, ◌≤◌, ℕ, ◌<◌, Option, Some, None, IsSomeAnd, length, min, take, map, refl, sym, ap, ◌∙◌, arith, inl, inr}
+use Rattle.std.proofs.Common.{◌≡◌, ◌≢◌, ◌≤◌, ℕ, ◌+◌, ◌<◌, List, Option, Some, None, IsSomeAnd, length, min, take, map, refl, sym, ap, ◌∙◌, arith, inl, inr}
 use Rattle.std.specs.List.{slice_get}
 use Rattle.std.proofs.lemmas.Option.{same_Some}
 use Rattle.std.proofs.lemmas.Bool.{cases_lt}
 use Rattle.la_set.specs.declared.counts.Counts.{Counts}
 use Rattle.la_set.specs.declared.update.Update.{Update}
 use Rattle.la_set.specs.ObjectOps.{object_op_of}
-use Rattle.la_set.specs.Agreement.{Agree, IsFirstDifference}
+use Rattle.la_set.specs.Agreement.{Agree, AgreeBelow, IsFirstDifference}
 use Rattle.la_set.specs.AgreeWithin.{AgreeWithin, NotBothNext, AgreeTo, IsAgreement}
 use Rattle.la_set.specs.Counts.{count_in, counts_of, from_counts}
 use Rattle.la_set.specs.Histories.{Histories, history, count, updates_of}
@@ -14,6 +14,17 @@ use Rattle.la_set.proofs.Rebuilding.{fronts, within-fronts, got_below}
 use Rattle.la_set.proofs.lemmas.Counting.{history-within, count_in-past, count_in-from_counts, count_in-counts_of}
 use Rattle.la_set.proofs.lemmas.NumberedLists.{length-numbered, take-numbered, object_ops-numbered}
 use Rattle.la_set.proofs.lemmas.SetHistories.{same_histories, count_past}
+
+-- lists that agree below a place, and have one update there, agree below the next
+pub agree-next : (xs ys : List Update) (n : ℕ) (u : Update) → AgreeBelow xs ys n → slice_get xs n ≡ Some u
+    → slice_get ys n ≡ Some u → AgreeBelow xs ys (n + 1)
+agree-next xs ys n u below in_xs in_ys k x y lt in_x in_y = elim (cases_lt k n) [
+  | inl before ↦ below k x y before in_x in_y
+  | inr from ↦
+      let here : k ≡ n = omega arith in
+      same_Some x u (sym in_x ∙ ap (slice_get xs) here ∙ in_xs)
+      ∙ sym (same_Some y u (sym in_y ∙ ap (slice_get ys) here ∙ in_ys))
+]
 
 module _ (s t : Histories) (r : ℕ) where
   lengths : (length (updates_of s r) ≡ count s r) × (length (updates_of t r) ≡ count t r)

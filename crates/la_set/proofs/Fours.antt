@@ -1,11 +1,18 @@
 -- Lists, four at a time.
-use Rattle.std.proofs.Common.{◌≡◌, ℕ, zero, suc, ◌<◌, ◌≤◌, ◌%◌, List, [], ◌∷◌, ◌++◌, length, get_or, map, refl, ap₂, sym, ◌∙◌, arith, inl, inr}
+use Rattle.std.proofs.Common.{◌≡◌, ℕ, zero, suc, ◌<◌, ◌≤◌, ◌%◌, List, [], ◌∷◌, ◌++◌, length, get_or, map, refl, ap, ap₂, sym, subst, ◌∙◌, arith, inl, inr, Option, Some, None, IfSome}
 use Rattle.std.proofs.lemmas.Bool.{cases_lt}
-use Rattle.std.proofs.lemmas.List.{same_lists, get_or_default}
+use Rattle.std.proofs.lemmas.List.{same_lists, get_or_default, length-map}
 use Rattle.la_set.specs.declared.update.Update.{Update}
 use Rattle.la_set.specs.declared.counts.Counts.{Counts}
-use Rattle.la_set.specs.Counts.{from_counts}
-use Rattle.la_set.specs.Representation.{four_of, lengths_of}
+use Rattle.la_set.specs.Counts.{from_counts, counts_of}
+use Rattle.la_set.specs.Representation.{represented, four_of, lengths_of, IsRepresentation}
+use Rattle.la_set.specs.declared.kept.Kept.{Kept}
+use Rattle.la_set.specs.Kept.{lists_of, cut_of, stored}
+use Rattle.la_set.proofs.Representation.{stored-uncut, list_at}
+use Rattle.la_set.specs.ObjectOps.{object_op_of}
+use Rattle.la_set.specs.Histories.{Histories, history, count, numbered}
+use Rattle.la_set.proofs.lemmas.Counting.{same_counts}
+use Rattle.la_set.proofs.lemmas.SetHistories.{history-from_histories, count_past}
 
 -- the list of a replica, of two times four
 pub four-low : (low high : List (List Update)) (r : ℕ) → r < 4
@@ -37,6 +44,53 @@ pub four-counts : (c : Counts) (low high : List (List Update))
     → c.of ≡ map length (four_of low) ++ map length (four_of high) → c ≡ lengths_of (four_of low ++ four_of high)
 unfolding from_counts
 four-counts c low high e = λ i. record { of = e i }
+
+-- how many updates a set has, that has those of replicas 0 to 3 alone
+module _ (s : Histories) (low : List (List Update)) (is : s ≡ represented (four_of low ++ four_of [])) where
+  count-listed : (r : ℕ) → r < 8 → count s r ≡ length (get_or (four_of low ++ four_of []) r [])
+  unfolding represented
+  count-listed r lt =
+      ap (λ t. count t r) is
+      ∙ ap length
+      (history-from_histories (λ q. map object_op_of (get_or (four_of low ++ four_of []) q [])) r lt)
+      ∙ length-map (get_or (four_of low ++ four_of []) r []) object_op_of
+
+  pub count-low : (r : ℕ) → r < 4 → count s r ≡ length (get_or low r [])
+  count-low r lt =
+      count-listed r (omega arith) ∙ ap length (four-low low [] r lt)
+      ∙ ap (λ q. length (get_or low q [])) {x = r % 4} {y = r} (omega arith)
+
+  pub count-high : (r : ℕ) → 4 ≤ r → count s r ≡ 0
+  count-high r le = elim (cases_lt r 8) [
+    | inl lt ↦ count-listed r lt ∙ ap length (four-high low [] r le lt)
+    | inr past ↦ count_past s r past
+  ]
+
+  -- the list of a replica
+  pub few-list : IsRepresentation (four_of low ++ four_of []) → (r : ℕ) → r < 4
+      → get_or low r [] ≡ numbered r 1 (history s r)
+  few-list keeps r lt =
+      ap (λ q. get_or low q []) {x = r} {y = r % 4} (omega arith) ∙ sym (four-low low [] r lt)
+      ∙ list_at (four_of low ++ four_of []) s r [] (omega arith) keeps (sym is)
+
+  pub few-counts : (c : Counts) → c.of ≡ map length (four_of low) ++ map length (four_of []) → c ≡ counts_of s
+  few-counts c e =
+      four-counts c low [] e
+      ∙ same_counts (λ r. length (get_or (four_of low ++ four_of []) r [])) (count s) (λ r lt. sym (count-listed r lt))
+
+-- what a set keeps that has the lists of replicas 0 to 3 alone
+module _ (kept : Kept) where
+  pub few-keeps : (o : Option (List (List Update))) → IsRepresentation (lists_of kept)
+      → IfSome o (λ low. lists_of kept ≡ four_of low ++ four_of [])
+      → IfSome o (λ low. IsRepresentation (four_of low ++ four_of []))
+  few-keeps None keeps is = tt
+  few-keeps (Some low) keeps is = subst IsRepresentation is keeps
+
+  pub few-stored : (o : Option (List (List Update))) → IfSome o (λ low. (cut_of kept).replica ≡ 8)
+      → IfSome o (λ low. lists_of kept ≡ four_of low ++ four_of [])
+      → IfSome o (λ low. stored kept ≡ represented (four_of low ++ four_of []))
+  few-stored None uncut is = tt
+  few-stored (Some low) uncut is = stored-uncut kept uncut ∙ ap represented is
 
 -- ## What arrays are read as
 

@@ -18,7 +18,7 @@ use Rattle.la_set.proofs.lemmas.Joins.{history-join}
 use Rattle.la_set.proofs.Walks.{longer_is, shorter_is}
 
 -- a list, and then what another has beyond it, of two replica's lists
-joined-numbered : (r : ℕ) (h k : List ObjectOp)
+pub joined-numbered : (r : ℕ) (h k : List ObjectOp)
     → numbered r 1 h ++ drop (length (numbered r 1 h)) (numbered r 1 k) ≡ numbered r 1 (joined h k)
 joined-numbered r h k =
     ap (λ n. numbered r 1 h ++ drop n (numbered r 1 k)) (length-numbered r 1 h)

@@ -47,7 +47,7 @@ impl UpdateSet {
         if !has_at(mine, known as usize, update) {
             return known;
         }
-        match first_difference_from(mine, theirs, known as usize) {
+        match first_difference_from(mine, theirs, known as usize + 1) {
             Some(place) => place as u32,
             None => both,
         }

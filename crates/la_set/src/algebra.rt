@@ -157,6 +157,11 @@ impl UpdateSet {
     fn has_no_more(&self, other: &UpdateSet) -> bool
         ensures { IsTrue result ↔ HasNoMore self.now other.now }
     {
+        if let Some(mine) = self.few() {
+            if let Some(theirs) = other.few() {
+                return mine.are_no_longer(theirs);
+            }
+        }
         let mine = self.counts();
         let theirs = other.counts();
         for replica in 0..REPLICAS {
@@ -402,7 +407,7 @@ fn catch_up(
 }
 
 // The update at a place that there is.
-fn item(updates: Lent<'_, Update>, place: usize) -> &Update
+pub(crate) fn item(updates: Lent<'_, Update>, place: usize) -> &Update
     requires { place < length (lent_items updates) }
     ensures { slice_get (lent_items updates.entry) place ≡ Some result.now }
 {

@@ -156,6 +156,22 @@ impl Delta {
 }
 
 impl Delta {
+    // The set that it was made of, lent.
+    fn whole(&self) -> Option<&UpdateSet>
+        ensures delta { IfSome (option_copied result) (λ s. self.now ≡ delta_over s self.now.base) }
+        ensures base { IfSome (option_copied result) (λ s. HasCounts s self.now.base) }
+        ensures limit { IfSome (option_copied result) IsWithinLimit }
+    {
+        match &self.more {
+            More::Whole(set) => {
+                // a hint to the prover: no number is over the limit
+                let _ = set.allocator();
+                Some(set)
+            }
+            More::Listed(_) => None,
+        }
+    }
+
     // The set that it was made of.
     pub(crate) fn into_set(self) -> UpdateSet
         requires { IsSome self.made_of }
@@ -246,6 +262,9 @@ impl UpdateSet {
         if !self.has_counts(base) {
             return Err(SetError::NoBase);
         }
+        if let Some(set) = delta.whole() {
+            return Ok(self.spliced(set, base, other, known)?);
+        }
         if !self.leads_on(delta) {
             return Err(SetError::Gap);
         }
@@ -297,11 +316,6 @@ impl UpdateSet {
     {
         // a hint to the prover: no number is over the limit
         let _ = self.allocator();
-        if let More::Whole(set) = &delta.more {
-            // a hint to the prover: no number is over the limit
-            let _ = set.allocator();
-            return true;
-        }
         let mut counts = delta.base().numbers();
         for place in 0..delta.len() {
             let UpdateId { replica, number } = delta.item(place).id;
@@ -340,7 +354,7 @@ impl UpdateSet {
         ]
     }
 
-    fn longer_list<'a>(
+    pub(crate) fn longer_list<'a>(
         &'a self,
         other: &'a UpdateSet,
         known: Counts,
@@ -352,15 +366,13 @@ impl UpdateSet {
         requires known { AgreeWithin known self.now other.now }
         ensures { StartsWith (lent_items result) (updates_of (within self.now base) replica) }
     {
-        let mine = self.history_of(replica);
         if base.of(replica) > known.of(replica) {
-            return mine;
+            return self.history_of(replica);
         }
-        let theirs = other.history_of(replica);
-        if len_of(theirs) > len_of(mine) {
-            theirs
+        if other.count_of(replica) > self.count_of(replica) {
+            other.history_of(replica)
         } else {
-            mine
+            self.history_of(replica)
         }
     }
 

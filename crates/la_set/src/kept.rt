@@ -1,9 +1,9 @@
 // What a set keeps: its lists behind one pointer, and where one of them is cut.
 ghost use Rattle.std.specs.Prelude.{◌≡◌, ◌≢◌, ◌≤◌, ◌<◌, ◌%◌, ◌⊎◌, ℕ, [], false, length, min};
-ghost use Rattle.std.specs.Prelude.{slice_index_or, unwrap_or, IfOk};
+ghost use Rattle.std.specs.Prelude.{slice_index_or, unwrap_or, ◌++◌, IfOk, IfSome};
 ghost use Rattle.std.specs.Option.{option_copied};
 ghost use Rattle.la_set.specs.Links.{lent_items};
-ghost use Rattle.la_set.specs.Representation.{represented, lengths_of};
+ghost use Rattle.la_set.specs.Representation.{represented, lengths_of, four_of};
 ghost use Rattle.la_set.specs.Kept.{lists_of, cut_of, cut_to, stored};
 
 use crate::history::{History, Lent};
@@ -61,6 +61,28 @@ impl Kept {
         }
         let of = Arc::new(alloc, EightLists { low, high })?;
         Ok(Kept::Many { replica, len, of })
+    }
+
+    // These lists of replicas 0 to 3, in one block.
+    pub(crate) fn keeping_few(alloc: Global, low: FourLists) -> Result<Kept, AllocError>
+        ensures lists { IfOk result (λ kept. lists_of kept ≡ four_of low ++ four_of []) }
+        ensures uncut { IfOk result (λ kept. (cut_of kept).replica ≡ REPLICAS) }
+    {
+        let Cut { replica, len } = UNCUT;
+        let of = Arc::new(alloc, low)?;
+        Ok(Kept::Few { replica, len, of })
+    }
+
+    // The lists of replicas 0 to 3, where none of another may have updates, and none is cut.
+    pub(crate) fn few(&self) -> Option<&FourLists>
+        ensures uncut { IfSome (option_copied result) (λ _. (cut_of self.now).replica ≡ REPLICAS) }
+        ensures lists { IfSome (option_copied result) (λ low.
+            lists_of self.now ≡ four_of low ++ four_of []) }
+    {
+        match self {
+            Kept::Few { replica, of, .. } if *replica == REPLICAS => Some(&**of),
+            _ => None,
+        }
     }
 
     // The four lists among which a replica's is, where any of these may have updates.

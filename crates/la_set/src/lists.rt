@@ -1,5 +1,5 @@
 // The lists that a set keeps.
-ghost use Rattle.std.specs.Prelude.{◌≡◌, ◌<◌, ◌↔◌, [], ◌++◌, length, map, replicate};
+ghost use Rattle.std.specs.Prelude.{◌≡◌, ◌<◌, ◌≤◌, ◌↔◌, ℕ, [], ◌++◌, length, map, replicate};
 ghost use Rattle.std.specs.Prelude.{slice_index_or, IsTrue};
 ghost use Rattle.la_set.specs.Links.{lent_items};
 ghost use Rattle.la_set.specs.Representation.{four_of};
@@ -64,6 +64,19 @@ impl FourLists {
             self.lists[2].len(),
             self.lists[3].len(),
         ]
+    }
+
+    // Whether each of four others is as long, or longer.
+    pub(crate) fn are_no_longer(&self, others: &FourLists) -> bool
+        ensures { IsTrue result ↔ ((r : ℕ) → r < 4
+            → length (slice_index_or self.now r []) ≤ length (slice_index_or others.now r [])) }
+    {
+        for place in 0..4u8 {
+            if self.len_of(place) > others.len_of(place) {
+                return false;
+            }
+        }
+        true
     }
 
     // Whether none of them has an update.

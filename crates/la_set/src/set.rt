@@ -1,5 +1,5 @@
-ghost use Rattle.std.specs.Prelude.{◌≡◌, ◌<◌, ◌≤◌, length, map, slice_get};
-ghost use Rattle.std.specs.Prelude.{IsOk, IfOk, IfErr, OnOk, OnErr};
+ghost use Rattle.std.specs.Prelude.{◌≡◌, ◌<◌, ◌≤◌, ◌++◌, [], length, map, slice_get};
+ghost use Rattle.std.specs.Prelude.{IsOk, IfOk, IfErr, IfSome, OnOk, OnErr};
 ghost use Rattle.std.specs.Option.{option_copied};
 ghost use Rattle.la_set.specs.ObjectOps.{object_op_of};
 ghost use Rattle.la_set.specs.Histories.{empty, count, get, last_update, updates, updates_of};
@@ -8,11 +8,12 @@ ghost use Rattle.la_set.specs.Histories.{IsNext, IsWithinLimit};
 ghost use Rattle.la_set.specs.Counts.{counts_of};
 ghost use Rattle.la_set.specs.Refusals.{IsPushRefusal};
 ghost use Rattle.la_set.specs.Links.{lent_items};
-ghost use Rattle.la_set.specs.Representation.{represented, AreListsOf, IsRepresentation};
+ghost use Rattle.la_set.specs.Representation.{represented, four_of, AreListsOf, IsRepresentation};
 ghost use Rattle.la_set.specs.Kept.{lists_of, cut_to};
 
 use crate::history::{History, Lent, first, item_at};
 use crate::kept::{Cut, Kept};
+use crate::lists::FourLists;
 use crate::{Counts, SetError, Update, UpdateId};
 use std::alloc::{AllocError, Global};
 use std::marker::Model;
@@ -82,6 +83,9 @@ impl UpdateSet {
         ensures counts { result ≡ counts_of self.now }
         ensures limit { IsWithinLimit self.now }
     {
+        if let Some(low) = self.few() {
+            return Counts::of_fours(low.lens(), [0; 4]);
+        }
         let cut = self.of.cut();
         self.of.counts().capped(cut.replica, cut.len)
     }
@@ -222,6 +226,16 @@ impl UpdateSet {
         first(list, cut.len as usize)
     }
 
+    // The lists of replicas 0 to 3, where the set has these alone.
+    pub(crate) fn few(&self) -> Option<&FourLists>
+        ensures keeps { IfSome (option_copied result) (λ low.
+            IsRepresentation (four_of low ++ four_of [])) }
+        ensures set { IfSome (option_copied result) (λ low.
+            self.now ≡ represented (four_of low ++ four_of [])) }
+    {
+        self.of.few()
+    }
+
     // What the set allocates with. The contract also tells that no number is over the limit.
     pub(crate) fn allocator(&self) -> Global
         ensures { IsWithinLimit self.now }
@@ -254,6 +268,17 @@ impl UpdateSet {
         Ok(UpdateSet {
             alloc,
             of: Kept::keeping(alloc, of)?,
+        })
+    }
+
+    // The set that keeps these lists of replicas 0 to 3.
+    pub(crate) fn keeping_few(alloc: Global, low: FourLists) -> Result<UpdateSet, AllocError>
+        requires { IsRepresentation (four_of low ++ four_of []) }
+        ensures { IfOk result (λ set. set ≡ represented (four_of low ++ four_of [])) }
+    {
+        Ok(UpdateSet {
+            alloc,
+            of: Kept::keeping_few(alloc, low)?,
         })
     }
 

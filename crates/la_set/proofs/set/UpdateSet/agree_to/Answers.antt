@@ -9,7 +9,7 @@ use Rattle.la_set.specs.Agreement.{Agree, AgreeBelow, IsFirstDifference}
 use Rattle.la_set.specs.AgreeWithin.{AgreeTo}
 use Rattle.la_set.specs.Counts.{count_in}
 use Rattle.la_set.specs.Histories.{updates_of}
-use Rattle.la_set.proofs.Agreeing.{none_next, known_agree, all_agree, first_agree}
+use Rattle.la_set.proofs.Agreeing.{agree-next, none_next, known_agree, all_agree, first_agree}
 use Rattle.la_set.proofs.Rebuilding.{within-agree, difference_below}
 use Rattle.la_set.proofs.set.UpdateSet.agree_to.Goals as goal
 
@@ -50,11 +50,14 @@ returns-then-not-has_at c =
 pub first_difference_from-requires : goal.first_difference_from-requires
 first_difference_from-requires c =
     let s = c.args.self.now in let t = c.args.other.now in let r = c.args.replica in
+    let known = c.of-known.result in let mine = items_of (option_copied c.history_of-mine.result) in
     let theirs = items_of (option_copied c.history_of-theirs.result) in
-    subst (λ us. AgreeBelow us theirs c.of-known.result) (sym c.history_of-mine.ensures.updates)
-    (subst (λ us. AgreeBelow (updates_of s r) us c.of-known.result) (sym c.history_of-theirs.ensures.updates)
+    agree-next mine theirs known c.in-Some.update.now
+    (subst (λ us. AgreeBelow us theirs known) (sym c.history_of-mine.ensures.updates)
+    (subst (λ us. AgreeBelow (updates_of s r) us known) (sym c.history_of-theirs.ensures.updates)
     (subst (AgreeBelow (updates_of s r) (updates_of t r)) (sym c.of-known.ensures)
-    (within-agree s t c.args.known c.requires.known.same r)))
+    (within-agree s t c.args.known c.requires.known.same r))))
+    (c.has_at.ensures.0 c.if-not-has_at.false) (sym c.item_at.ensures ∙ ap option_copied c.in-Some.is)
 
 pub overflow_cast-result : goal.overflow_cast-result
 overflow_cast-result c =

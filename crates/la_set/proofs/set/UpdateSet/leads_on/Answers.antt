@@ -1,24 +1,14 @@
-use Rattle.std.proofs.Common.{refl, subst, ap, sym, ◌∙◌, take, arith}
+use Rattle.std.proofs.Common.{ap, sym, ◌∙◌, take, arith}
 use Rattle.std.proofs.lemmas.Bool.{false≢true}
 use Rattle.std.proofs.lemmas.List.{length-set}
 use Rattle.la_set.specs.Histories.{count}
 use Rattle.la_set.specs.Counts.{count_in, within}
-use Rattle.la_set.specs.Deltas.{pushed, delta_of, HasBase}
+use Rattle.la_set.specs.Deltas.{pushed}
 use Rattle.la_set.proofs.lemmas.Counting.{count-within}
 use Rattle.la_set.proofs.Pushing.{next_at, next_more, pushed_more, pushed-limit}
 use Rattle.la_set.proofs.Growing.{counts-push}
-use Rattle.la_set.proofs.Rebuilding.{next-over}
 use Rattle.la_set.proofs.set.UpdateSet.leads_on.Goals.{then-replica-ge-REPLICAS-via-then-replica-ge-REPLICAS, then-replica-ge-REPLICAS-via-else-replica-ge-REPLICAS+then-number-gt-MAX_NUMBER}
 use Rattle.la_set.proofs.set.UpdateSet.leads_on.Goals as goal
-
-pub returns-in-Whole : goal.returns-in-Whole
-returns-in-Whole c =
-    let s = c.in-Whole.set in let base = c.delta.inside.base in (
-      λ _.
-          next-over c.args.self.now s base c.args.delta.now (sym (ap (delta_of base) c.in-Whole.is) ∙ c.delta.view_is)
-          c.requires (subst (HasBase base) c.in-Whole.is c.delta.invariant) c.allocator-in-Whole.ensures,
-      λ _. refl,
-    )
 
 pub loop-place-init : goal.loop-place-init
 loop-place-init c =

@@ -8,18 +8,18 @@ use Rattle.la_set.proofs.set.UpdateSet.longer_list.Goals as goal
 pub returns-then-of : goal.returns-then-of
 returns-then-of c =
     let s = c.args.self.now in let r = c.args.replica in
-    subst (IsFront (updates_of (within s c.args.base) r)) (sym c.history_of-mine.ensures.updates)
+    subst (IsFront (updates_of (within s c.args.base) r)) (sym c.history_of.ensures.updates)
     (begins-own s c.args.base r)
 
-pub returns-then-len_of : goal.returns-then-len_of
-returns-then-len_of c =
+pub returns-then-count_of : goal.returns-then-count_of
+returns-then-count_of c =
     let s = c.args.self.now in let r = c.args.replica in
-    subst (IsFront (updates_of (within s c.args.base) r)) (sym c.history_of-theirs.ensures.updates)
+    subst (IsFront (updates_of (within s c.args.base) r)) (sym c.history_of-then-count_of.ensures.updates)
     (begins-other s c.args.other.now c.args.known c.args.base r c.requires.known.same
     (omega (arith, c.if-of.false, c.of.ensures, c.of-2.ensures)))
 
-pub returns-else-len_of : goal.returns-else-len_of
-returns-else-len_of c =
+pub returns-else-count_of : goal.returns-else-count_of
+returns-else-count_of c =
     let s = c.args.self.now in let r = c.args.replica in
-    subst (IsFront (updates_of (within s c.args.base) r)) (sym c.history_of-mine.ensures.updates)
+    subst (IsFront (updates_of (within s c.args.base) r)) (sym c.history_of-else-count_of.ensures.updates)
     (begins-own s c.args.base r)

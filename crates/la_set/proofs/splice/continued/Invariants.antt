@@ -1,0 +1,11 @@
+use Rattle.std.proofs.Common.{◌≡◌, ◌≤◌, take}
+use Rattle.std.specs.Option.{option_copied}
+use Rattle.la_set.specs.Links.{items_of}
+use Rattle.la_set.proofs.Joining.{up_to}
+use Rattle.la_set.proofs.splice.continued.Given as goal
+
+abbrev pub invariant-loop-place : goal.invariant-loop-place
+invariant-loop-place l = record {
+  so_far : l.whole ≡ up_to (take l.len (items_of (option_copied l.list))) (items_of (option_copied l.next)) l.place;
+  from : l.len ≤ l.place;
+}
