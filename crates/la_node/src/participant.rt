@@ -99,10 +99,12 @@ pub fn take_noting(
     ensures learning { OnErr result (IsSome (learnt_in out.said)) }
     ensures err { OnErr result (receiver.new ≡ receiver.old) }
 {
-    let grows = change.accepted.is_some() || change.view.is_some();
+    let (accepts, views) = (change.accepted.is_some(), change.view.is_some());
     let taken = take_prepared(receiver, message, out, change)?;
-    if grows {
+    if accepts {
         receiver.note_agreement();
+    } else if views {
+        receiver.note_view();
     }
     Ok(taken)
 }

@@ -422,10 +422,21 @@ impl Replica {
     {
         let first = &self.instances[0];
         let accepted = first.acceptor.accepted();
-        let view = self.view.agreement(accepted, self.agreed_view);
         let ballot = accepted.agreement(first.proposer.updates(), self.agreed_ballot);
-        self.agreed_view = view;
         self.agreed_ballot = ballot;
+        self.note_view();
+    }
+
+    /// Notes how far what is accepted in instance 0 agrees with the view, which is enough where the view
+    /// alone has changed since the last [`Replica::note_agreement`]. No answer changes by it.
+    ///
+    /// It takes no memory. The cost is that of comparing what the two have gained since the last note.
+    pub fn note_view(&mut self)
+        ensures { self.new ≡ self.old }
+    {
+        let accepted = self.instances[0].acceptor.accepted();
+        let view = self.view.agreement(accepted, self.agreed_view);
+        self.agreed_view = view;
     }
 
     /// What a timer should send once more where answers stay away. Of each instance, in order: while
