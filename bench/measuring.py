@@ -41,6 +41,8 @@ PROGRAMS = {
     "threads": (*OBJECTS, "la_acceptor", "la_shared", "la_proposer", "la_commit", "la_runner"),
     "types": ("la_set", "la_own", "la_shelf", "la_types", "la_list"),
 }
+# What a program stands on of the kit, where that is more than anyhow.
+KIT = {"growth": "anyhow smallvec"}
 
 
 class Cost(NamedTuple):
@@ -87,7 +89,7 @@ def make_workspace(folder: Path, names: Sequence[str]) -> None:
         for file in (BENCH / "proofs" / name).glob("*/*.antt.txt"):
             (crate / "proofs" / file.parent.name).mkdir(parents=True, exist_ok=True)
             shutil.copy(file, crate / "proofs" / file.parent.name / file.stem)
-        lines.append(f"{name}: {' '.join(PROGRAMS[name])} anyhow")
+        lines.append(f"{name}: {' '.join(PROGRAMS[name])} {KIT.get(name, 'anyhow')}")
     (folder / "crates.txt").write_text("\n".join([*lines, ""]))
     shutil.copy(TOP / "HANDLES", folder)
     subprocess.run(["git", "init", "-q", "."], cwd=folder, check=True)
