@@ -329,8 +329,9 @@ class Run:
 
     def is_settled(self) -> bool:
         views = {it.view for it in self.checker.nodes}
-        made = tuple(max(it.submitted, default=0) for it in self.checker.nodes)
-        return len(views) == 1 and next(iter(views))[: self.group.replicas] == made
+        made = [max(it.submitted, default=0) for it in self.checker.nodes]
+        # Behind the last that the cap allows none comes which tells that one was submitted whose answer a kill lost.
+        return len(views) == 1 and all(has in (it, self.group.cap) for has, it in zip(next(iter(views)), made))
 
     def in_time(self) -> None:
         if time.monotonic() > self.until:
