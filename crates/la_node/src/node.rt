@@ -364,8 +364,8 @@ impl<B: Replicated> Node<B> {
     {
         let own = self.replica.own();
         let (out, change) = self.replica.prepare_beyond(message, known)?;
-        let (done, learnt) = take_noting(&mut self.replica, message, out, change)?;
-        let outcome = outcome_by(message.instance, own, learnt.as_ref());
+        let done = take_noting(&mut self.replica, message, out, change)?;
+        let outcome = outcome_by(message.instance, own, done.said.learnt());
         Ok(Received { done, outcome })
     }
 

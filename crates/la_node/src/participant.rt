@@ -1,10 +1,10 @@
 // What a replica does as a participant of an adopt-commit object, by the sets that it learns. No
 // state is kept of it: its own vote in a set tells how far it is.
 ghost use Rattle.std.specs.Prelude.{◌≡◌, ◌<◌, ◌+◌, ◌++◌, option_and_then};
-ghost use Rattle.std.specs.Prelude.{IsSome, IfOk, OnErr};
+ghost use Rattle.std.specs.Prelude.{false, IsSome, IfOk, OnErr};
 ghost use Rattle.std.specs.Option.{option_copied};
 ghost use Rattle.la_commit.specs.declared.instance.TheConstants.{MAX_COMMITS};
-ghost use Rattle.la_commit.specs.Instances.{commit_of};
+ghost use Rattle.la_commit.specs.Instances.{commit_of, is_first_instance};
 ghost use Rattle.la_commit.specs.Votes.{casts};
 ghost use Rattle.la_commit.specs.Outcomes.{outcome_in};
 ghost use Rattle.la_replica.specs.Whole.{whole_out};
@@ -86,27 +86,48 @@ pub fn take_prepared(
     }
 }
 
-// The same, and notes how far the replica's sets agree, where one of them grows by it.
+// The same without a copy of what is learnt. In instance 0, and where else no vote may follow, it takes no
+// memory, and notes how far the replica's sets agree, where one of them grows by it.
 pub fn take_noting(
     receiver: &mut Replica,
     message: &Message,
     out: Out,
     change: Change,
-) -> Result<(Done, Option<UpdateSet>), AllocError>
+) -> Result<Done, AllocError>
     requires { IsPreparedReceipt receiver.old message.now out change }
-    ensures taken { IfOk result (λ taken. TakesAs receiver.old message.now taken.0 receiver.new) }
-    ensures learnt { IfOk result (λ taken. taken.1 ≡ learnt_in taken.0.said) }
+    ensures taken { IfOk result (λ done. TakesAs receiver.old message.now done receiver.new) }
     ensures learning { OnErr result (IsSome (learnt_in out.said)) }
     ensures err { OnErr result (receiver.new ≡ receiver.old) }
 {
+    if is_first_instance(message.instance) {
+        let (done, _) = take_prepared(receiver, message, out, change)?;
+        return Ok(done);
+    }
+    Ok(take_plainly(receiver, message, out, change))
+}
+
+// Commits what was prepared for a message of no object's first instance, so that no vote follows.
+#[inline(always)]
+fn take_plainly(receiver: &mut Replica, _message: &Message, out: Out, change: Change) -> Done
+    requires prepared { IsPreparedReceipt receiver.old _message.now out change }
+    requires plain { is_first_instance _message.now.instance ≡ false }
+    ensures { TakesAs receiver.old _message.now result receiver.new }
+{
     let (accepts, views) = (change.accepted.is_some(), change.view.is_some());
-    let taken = take_prepared(receiver, message, out, change)?;
+    receiver.commit(change);
+    note_growth(receiver, accepts, views);
+    Done::without_vote(out)
+}
+
+// Notes how far a replica's sets agree, where what it has accepted grew, or its view.
+fn note_growth(receiver: &mut Replica, accepts: bool, views: bool)
+    ensures { receiver.new ≡ receiver.old }
+{
     if accepts {
         receiver.note_agreement();
     } else if views {
         receiver.note_view();
     }
-    Ok(taken)
 }
 
 // Commits what a message in this instance led to, and the second vote to which that leads.

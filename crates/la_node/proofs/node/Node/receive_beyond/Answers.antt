@@ -50,7 +50,7 @@ returns-clause-returns g c =
     let done = c.in_ok-done.done in
     let told =
     told_by i c.own-own.result c.self.inside.replica.own _ _ done.said c.outcome_by-outcome.result
-    c.outcome_by-outcome.ensures c.as_ref.ensures.value c.in_ok-done.ensures.learnt c.own-own.ensures.own in
+    c.outcome_by-outcome.ensures c.learnt.ensures refl c.own-own.ensures.own in
     taken_returns c.self.inside.replica (received_in c.self.inside.replica c.args.message.now) (whole_done done)
     c.take_noting.new.receiver c.outcome_by-outcome.result c.self.invariant.participates
     c.in_ok-done.ensures.taken.step
@@ -65,7 +65,7 @@ returns-clause-step g c =
     let after = c.take_noting.new.receiver in
     let due =
     told_by m.instance c.own-own.result r.own _ _ done.said outcome
-    c.outcome_by-outcome.ensures c.as_ref.ensures.value c.in_ok-done.ensures.learnt c.own-own.ensures.own in
+    c.outcome_by-outcome.ensures c.learnt.ensures refl c.own-own.ensures.own in
     subst (λ (q : NodeState). node_step q.replica (Received m) ≡ Some (given_done done outcome, after)) c.self.view_is
     (received_steps r m done outcome after c.in_ok-out.ensures.takes.stands c.in_ok-out.ensures.takes.receivable
     c.in_ok-out.ensures.takes.spares c.in_ok-done.ensures.taken.step due c.in_ok-done.ensures.taken.told)
