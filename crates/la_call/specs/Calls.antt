@@ -34,7 +34,7 @@ plan_by options name = record {
 
 -- ## What is heard
 
--- a line that comes where nothing came for the interval
+-- a line that comes where the interval has passed
 abbrev pub is_timeout : CallPlan → List ℕ → Bool
 is_timeout a line = a.waits && bytes_eq line (codes "tick")
 

@@ -21,7 +21,7 @@ const READS: &str = "Where the answer is read, in place of standard input: a fil
 const WRITES: &str =
     "Where the request is written, in place of standard output: a file or a fifo that exists";
 
-const WAITS: &str = "Seconds without a line until a time-out, 0 to 3600; 0 is never";
+const WAITS: &str = "Seconds until a time-out, 0 to 3600; 0 is never";
 
 const REPEATS: &str = "How often a request is written at most that may be repeated, 1 to 1000";
 
@@ -36,8 +36,8 @@ which the request is to be written again. It is printed on standard output; wher
 there, on standard error.
 
 At a time-out the request is written again, if it is `ask`, `update`, `status`, `decide` or `submit R.K`,
-and was not so often; else the call ends. The next time-out takes twice as long, up to a minute, and
-each line that comes, another's too, begins anew. A line `tick` that is read is a time-out too.
+and was not so often; else the call ends. The next time-out takes twice as long, up to a minute, whatever
+lines come. A line `tick` that is read is a time-out too.
 
 --out is opened before --in, and a fifo is open once another process has its other end.
 

@@ -16,7 +16,7 @@ use std::io::{Read, Write};
 pub(crate) enum Heard {
     // It answers.
     Answer,
-    // Nothing came for the interval.
+    // The interval has passed.
     Timeout,
     // It is another's, or it tells to wait.
     Other,

@@ -116,7 +116,7 @@ fn node_command<'a>(alloc: Global) -> Result<Command<'a>, AllocError>
     let help = "How many updates it may submit, 1 to 1000000";
     let capped = with_number(alloc, shared, "cap", caps, "1000000", help)?;
     let ticks = value_parser!(u16).range(0..=3600);
-    let help = "Seconds without input until it ticks by itself, 0 to 3600; 0 is never";
+    let help = "Seconds until it ticks by itself, 0 to 3600; 0 is never";
     let timed = with_number(alloc, capped, "tick", ticks, "0", help)?;
     let kibibytes = value_parser!(u32).range(0..=1_000_000);
     let help = "From how many KiB of journal a start compacts it, 0 to 1000000; 0 is never";

@@ -10,7 +10,7 @@ use Rattle.la_tick.specs.declared.feed.Feed.{Feed}
 
 -- ## What was heard
 
--- What was heard, the newest first: bytes that came, or `None` where nothing came for an interval.
+-- What was heard, the newest first: bytes that came, or `None` where an interval passed.
 abbrev pub Hearing : Type 0
 Hearing = List (Option (List ℕ))
 
@@ -30,11 +30,11 @@ woven [] = []
 woven (Some bytes ∷ before) = woven before ++ bytes
 woven (None ∷ before) = woven before ++ tick_line
 
--- how many intervals passed since anything came
-abbrev pub quiet : Hearing → ℕ
-quiet [] = 0
-quiet (Some bytes ∷ before) = 0
-quiet (None ∷ before) = quiet before + 1
+-- how many intervals passed: since anything came, where they begin anew with it, and else in all
+abbrev pub passed : (anew : Bool) → Hearing → ℕ
+passed anew [] = 0
+passed anew (Some bytes ∷ before) = if anew then 0 else passed anew before
+passed anew (None ∷ before) = passed anew before + 1
 
 -- ## Between lines
 
@@ -64,12 +64,12 @@ abbrev pub patience : Feed → Option ℕ
 patience f = if f.whole then Some f.pace.now else None
 
 -- The reader stands where this was heard and these bytes were handed on: they and those in hand are what is made of it,
--- each tick came between lines, and how long it waits is what the ticks since anything came say.
+-- each tick came between lines, and how long it waits is what the ticks that count say.
 pub record Stands (f : Feed) (heard : Hearing) (handed : List ℕ) : Type 0 where
   pub woven : woven heard ≡ handed ++ in_hand f
   pub whole : f.whole ≡ is_whole (input heard)
   pub between : IsBetweenLines heard
-  pub interval : f.pace.now ≡ interval f.pace.first (quiet heard)
+  pub interval : f.pace.now ≡ interval f.pace.first (passed f.pace.anew heard)
 
 -- these bytes were handed on more, and one thing was heard more, or nothing
 pub record HandsOn (f : Feed) (heard : Hearing) (handed bytes : List ℕ) : Type 0 where

@@ -1,6 +1,7 @@
 // What is handed on of an input, and when a tick is.
 ghost use Rattle.std.specs.Prelude.{◌≡◌, ◌↔◌, ◌<◌, ◌++◌, ◌∷◌, List, ℕ, true, [], Some, None, IsTrue};
 ghost use Rattle.std.specs.Prelude.{length, take, min, max};
+ghost use Rattle.la_tick.specs.Paces.{IsSameManner};
 ghost use Rattle.la_tick.specs.Ticks.{Hearing, Stands, ends_behind, in_hand, patience};
 
 use crate::chunk::Chunk;
@@ -19,18 +20,20 @@ fn ends_behind(ended: bool, bytes: &[u8]) -> bool
 }
 
 impl Feed {
-    // Nothing came yet. The first interval is of so many milliseconds, at least of one.
-    pub(crate) fn new(chunk: Chunk, first: u64) -> Feed
+    // Nothing came yet. The first interval is of so many milliseconds, at least of one, and it begins anew with what
+    // comes, or not.
+    pub(crate) fn new(chunk: Chunk, first: u64, anew: bool) -> Feed
         requires { chunk ≡ [] }
         ensures stands { Stands result [] [] }
         ensures first { result.pace.first ≡ max first 1 }
+        ensures anew { result.pace.anew ≡ anew }
         ensures open { result.ending ≡ None }
     {
         Feed {
             chunk,
             taken: 0,
             whole: true,
-            pace: Pace::new(first),
+            pace: Pace::new(first, anew),
             ending: None,
         }
     }
@@ -60,7 +63,7 @@ impl Feed {
             → Stands self.new (Some filled.chunk ∷ heard) handed }
         ensures some { 0 < length (in_hand self.new) }
         ensures ending { self.new.ending ≡ self.old.ending }
-        ensures first { self.new.pace.first ≡ self.old.pace.first }
+        ensures manner { IsSameManner self.old.pace self.new.pace }
     {
         self.whole = ends_behind(self.whole, filled.chunk.as_slice());
         self.pace = self.pace.after_input();
@@ -68,7 +71,7 @@ impl Feed {
         mem::replace(&mut self.chunk, filled.chunk)
     }
 
-    // Nothing came for the interval.
+    // The interval has passed.
     pub(crate) fn hear_nothing(&mut self)
         requires done { in_hand self.old ≡ [] }
         requires whole { self.old.whole ≡ true }
@@ -76,7 +79,7 @@ impl Feed {
             → Stands self.new (None ∷ heard) handed }
         ensures some { 0 < length (in_hand self.new) }
         ensures ending { self.new.ending ≡ self.old.ending }
-        ensures first { self.new.pace.first ≡ self.old.pace.first }
+        ensures manner { IsSameManner self.old.pace self.new.pace }
     {
         self.taken = 0;
         self.chunk.fill(b"tick\n");
@@ -89,7 +92,7 @@ impl Feed {
             → Stands self.new heard (handed ++ take result buf.new) }
         ensures count { result ≡ min (length buf.old) (length (in_hand self.old)) }
         ensures ending { self.new.ending ≡ self.old.ending }
-        ensures first { self.new.pace.first ≡ self.old.pace.first }
+        ensures manner { IsSameManner self.old.pace self.new.pace }
     {
         let chunk = self.chunk.as_slice();
         let ahead = &chunk[self.taken..];

@@ -1,7 +1,7 @@
-//! A reader that hands on the bytes of another one, and a line `tick` between two lines where nothing came for a while.
+//! A reader that hands on the bytes of another one, and a line `tick` between two lines where a while has passed.
 //!
-//! [`Ticked`] is it. `specs/Ticks.antt` has what is handed on and when a tick may come, `specs/Paces.antt` how long
-//! nothing has to come before one.
+//! [`Ticked`] is it. `specs/Ticks.antt` has what is handed on and when a tick may come, `specs/Paces.antt` how long the
+//! while is.
 #![tactic(auto)]
 
 mod chunk;

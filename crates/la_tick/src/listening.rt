@@ -1,6 +1,7 @@
 // The reads of the reader that ticks.
 ghost use Rattle.std.specs.Prelude.{◌≡◌, ◌<◌, ◌++◌, List, ℕ, true, [], None, IsSome, length};
 ghost use Rattle.std.specs.Io.{ReadsAtMost};
+ghost use Rattle.la_tick.specs.Paces.{IsSameManner};
 ghost use Rattle.la_tick.specs.Ticks.{Hearing, Stands, HandsOn, EndsAs, in_hand, handed_by};
 
 use crate::Ticked;
@@ -10,10 +11,26 @@ use crate::reading::Note;
 use crossbeam_channel::RecvTimeoutError;
 use std::io::{self, ErrorKind, Read};
 use std::sync::Wait;
-use std::time::{Clock, Duration};
+use std::time::{Clock, Duration, Instant};
 
 impl<R: Wait + Clock + Drop> Ticked<R> {
-    // Waits for what the thread tells. Answers nothing where none came for an interval.
+    // How long more the interval lasts, which is of so many milliseconds: from its begin on, where that is known, and
+    // else from now on.
+    fn rest_of(&self, millis: u64) -> Duration {
+        let spent = self.since.and_then(|then| then.elapsed(&self.rt).ok());
+        Duration::from_millis(millis).saturating_sub(spent.unwrap_or(Duration::ZERO))
+    }
+
+    // The interval begins now, where this says so.
+    fn begin_if(&mut self, begins: bool)
+        ensures { self.new ≡ self.old }
+    {
+        if begins {
+            self.since = Instant::now(&self.rt).ok();
+        }
+    }
+
+    // Waits for what the thread tells. Answers nothing where an interval has passed.
     fn listen(&self) -> Option<Note>
         ensures { result ≡ None → self.now.whole ≡ true }
     {
@@ -23,7 +40,10 @@ impl<R: Wait + Clock + Drop> Ticked<R> {
                 Err(_) => Some(Note::Last(Ending::Failed(ErrorKind::BrokenPipe))),
             };
         };
-        let limit = Duration::from_millis(millis);
+        let limit = self.rest_of(millis);
+        if limit.is_zero() {
+            return None;
+        }
         match self.notes.recv_timeout(&self.rt, limit) {
             Ok(note) => Some(note),
             Err(RecvTimeoutError::Timeout) => None,
@@ -45,15 +65,20 @@ impl<R: Wait + Clock + Drop> Ticked<R> {
         ensures hands { (heard : Hearing) (handed : List ℕ) → Stands self.old heard handed
             → HandsOn self.new heard handed [] }
         ensures some { self.new.ending ≡ None → 0 < length (in_hand self.new) }
-        ensures first { self.new.pace.first ≡ self.old.pace.first }
+        ensures manner { IsSameManner self.old.pace self.new.pace }
     {
         match self.listen() {
             Some(Note::Bytes(filled)) => {
+                let slow = self.feed.pace.is_slow();
                 let spent = self.feed.hear_bytes(filled);
                 self.give_back(spent);
+                self.begin_if(slow);
             }
             Some(Note::Last(ending)) => self.feed.ending = Some(ending),
-            None => self.feed.hear_nothing(),
+            None => {
+                self.feed.hear_nothing();
+                self.begin_if(true);
+            }
         }
     }
 
@@ -63,7 +88,7 @@ impl<R: Wait + Clock + Drop> Ticked<R> {
             → HandsOn self.new heard handed [] }
         ensures some { self.new.ending ≡ None → 0 < length (in_hand self.new) }
         ensures stays { IsSome self.old.ending → self.new ≡ self.old }
-        ensures first { self.new.pace.first ≡ self.old.pace.first }
+        ensures manner { IsSameManner self.old.pace self.new.pace }
     {
         if self.feed.ending.is_none() && self.feed.is_done() {
             self.hear();
@@ -74,17 +99,17 @@ impl<R: Wait + Clock + Drop> Ticked<R> {
 impl<R: Wait + Clock + Drop> Read for Ticked<R> {
     /// Hands on the bytes that come next: of the input, or of a tick.
     ///
-    /// It waits where all that came is handed on: within a line without a limit, and between lines for the interval.
-    /// Where nothing came until then it hands on a tick, and doubles the interval, up to a minute; once bytes come it
-    /// is the first one again. At the input's end it answers 0, and once a read of the input failed that error, for
-    /// good.
+    /// It waits where all that came is handed on: within a line without a limit, and between lines for what is left of
+    /// the interval. Where that has passed it hands on a tick, and doubles the interval, up to a minute; by
+    /// [`Ticked::new`] the first one begins anew with the bytes that come next. At the input's end it answers 0, and
+    /// once a read of the input failed that error, for good.
     fn read(&mut self, buf: &mut [u8]) -> io::Result<usize>
         ensures bound { ReadsAtMost result buf.new }
         ensures hands { (heard : Hearing) (handed : List ℕ) → Stands self.old heard handed
             → HandsOn self.new heard handed (handed_by result buf.new) }
         ensures ends { 0 < length buf.old → EndsAs self.new.ending result }
         ensures stays { IsSome self.old.ending → self.new ≡ self.old }
-        ensures first { self.new.pace.first ≡ self.old.pace.first }
+        ensures manner { IsSameManner self.old.pace self.new.pace }
     {
         if buf.is_empty() {
             return Ok(0);

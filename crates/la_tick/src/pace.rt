@@ -1,48 +1,63 @@
-// How long nothing has to come before a tick.
-ghost use Rattle.std.specs.Prelude.{◌≡◌, ℕ, ◌+◌, ◌<◌, max};
-ghost use Rattle.la_tick.specs.Paces.{interval};
+// How long it takes to the next tick.
+ghost use Rattle.std.specs.Prelude.{◌≡◌, ℕ, ◌+◌, ◌<◌, max, if◌then◌else◌};
+ghost use Rattle.la_tick.specs.Paces.{interval, IsSameManner};
 
 // The longest interval, in milliseconds, unless the first is longer.
 const LONGEST: u64 = 60_000;
 
-// The interval, in milliseconds, and the one that it begins with.
+// The interval, in milliseconds, the one that it begins with, and whether it begins anew where something comes.
 #[derive(Clone, Copy)]
 pub(crate) struct Pace {
     pub(crate) first: u64,
     pub(crate) now: u64,
+    pub(crate) anew: bool,
 }
 
 impl Pace {
     // Begins with this interval, at least with one millisecond.
-    pub(crate) fn new(first: u64) -> Pace
+    pub(crate) fn new(first: u64, anew: bool) -> Pace
         ensures first { result.first ≡ max first 1 }
         ensures now { result.now ≡ interval (max first 1) 0 }
+        ensures anew { result.anew ≡ anew }
     {
         let first = first.max(1);
-        Pace { first, now: first }
+        Pace {
+            first,
+            now: first,
+            anew,
+        }
+    }
+
+    // Whether it has doubled, and begins anew with what comes.
+    pub(crate) fn is_slow(&self) -> bool {
+        self.anew && self.now > self.first
     }
 
     // Something came.
     pub(crate) fn after_input(self) -> Pace
-        ensures first { result.first ≡ self.first }
-        ensures now { result.now ≡ interval self.first 0 }
+        ensures manner { IsSameManner self result }
+        ensures now { (ticks : ℕ) → self.now ≡ interval self.first ticks
+            → result.now ≡ interval self.first (if self.anew then 0 else ticks) }
     {
+        if !self.anew {
+            return self;
+        }
         Pace {
-            first: self.first,
             now: self.first,
+            ..self
         }
     }
 
-    // Nothing came for the interval.
+    // The interval has passed.
     pub(crate) fn after_tick(self) -> Pace
-        ensures first { result.first ≡ self.first }
+        ensures manner { IsSameManner self result }
         ensures now { (ticks : ℕ) → self.now ≡ interval self.first ticks
             → result.now ≡ interval self.first (ticks + 1) }
     {
         let most = self.first.max(LONGEST);
         Pace {
-            first: self.first,
             now: self.now.saturating_mul(2).min(most),
+            ..self
         }
     }
 }

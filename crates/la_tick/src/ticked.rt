@@ -1,5 +1,5 @@
 // The reader, and the thread that reads for it.
-ghost use Rattle.std.specs.Prelude.{◌≡◌, [], max, None, IfOk};
+ghost use Rattle.std.specs.Prelude.{◌≡◌, [], max, None, IfOk, true, false};
 ghost use Rattle.la_tick.specs.declared.feed.Feed.{Feed};
 ghost use Rattle.la_tick.specs.Ticks.{Stands};
 ghost use Rattle.la_tick.specs.declared.ticked.TickFault.TheVariants.{Memory};
@@ -14,7 +14,7 @@ use std::marker::Model;
 use std::sync::Wait;
 use std::thread;
 use std::thread::Threads;
-use std::time::Clock;
+use std::time::{Clock, Instant};
 use thiserror::Error;
 
 // So many chunks go between the thread and the reader, which has one more.
@@ -40,13 +40,15 @@ impl From<AllocError> for TickFault {
     }
 }
 
-/// A reader of another one's bytes, which puts a line `tick` between two lines where nothing came for an interval.
+/// A reader of another one's bytes, which puts a line `tick` between two lines where an interval has passed.
 #[derive(Drop)]
 pub struct Ticked<R: Wait + Clock> {
     pub(crate) rt: R,
     pub(crate) feed: Feed,
     pub(crate) notes: Receiver<Note>,
     pub(crate) spare: Sender<Chunk>,
+    // When the interval began, if the clock could be read.
+    pub(crate) since: Option<Instant>,
 }
 
 impl<R: Wait + Clock> Model for Ticked<R> {
@@ -66,7 +68,9 @@ fn chunks<R: Wait>(rt: &R, alloc: Global) -> Result<(Sender<Chunk>, Receiver<Chu
 }
 
 impl<R: Threads + Wait + Clock + Copy + Send + 'static> Ticked<R> {
-    /// A reader of the input's bytes, whose first interval is of so many milliseconds, at least of one.
+    /// A reader of the input's bytes, whose first interval is of so many milliseconds, at least of one. It begins now,
+    /// each next one with a tick, and where it has doubled, the first one anew with what comes then. No other input
+    /// puts a tick off, so that who is always busy ticks too.
     ///
     /// A thread of its own reads the input, at most 16,384 bytes ahead, until the input ends or a read fails. It is
     /// never joined: where it waits in a read it ends with the process. Memory is taken here alone.
@@ -78,17 +82,48 @@ impl<R: Threads + Wait + Clock + Copy + Send + 'static> Ticked<R> {
     ) -> Result<Ticked<R>, TickFault>
         ensures begins { IfOk result (λ t. Stands t [] []) }
         ensures first { IfOk result (λ t. t.pace.first ≡ max first 1) }
+        ensures anew { IfOk result (λ t. t.pace.anew ≡ true) }
         ensures open { IfOk result (λ t. t.ending ≡ None) }
     {
-        let feed = Feed::new(Chunk::new(alloc)?, first);
+        let feed = Feed::new(Chunk::new(alloc)?, first, true);
+        Ticked::over(rt, alloc, input, feed)
+    }
+
+    /// The same, but none begins anew, whatever comes: for one who waits for a line among many.
+    pub fn whatever_comes<I: Read + Send + Drop + 'static>(
+        rt: R,
+        alloc: Global,
+        input: I,
+        first: u64,
+    ) -> Result<Ticked<R>, TickFault>
+        ensures begins { IfOk result (λ t. Stands t [] []) }
+        ensures first { IfOk result (λ t. t.pace.first ≡ max first 1) }
+        ensures anew { IfOk result (λ t. t.pace.anew ≡ false) }
+        ensures open { IfOk result (λ t. t.ending ≡ None) }
+    {
+        let feed = Feed::new(Chunk::new(alloc)?, first, false);
+        Ticked::over(rt, alloc, input, feed)
+    }
+
+    // A reader of the input's bytes, where this is heard.
+    fn over<I: Read + Send + Drop + 'static>(
+        rt: R,
+        alloc: Global,
+        input: I,
+        feed: Feed,
+    ) -> Result<Ticked<R>, TickFault>
+        ensures { IfOk result (λ t. t ≡ feed) }
+    {
         let (to, notes) = bounded(alloc, SPARE)?;
         let (spare, from) = chunks(&rt, alloc)?;
+        let since = Instant::now(&rt).ok();
         match thread::spawn(&rt, move || read_all(&rt, input, to, from)) {
             Ok(_) => Ok(Ticked {
                 rt,
                 feed,
                 notes,
                 spare,
+                since,
             }),
             Err(_) => Err(TickFault::NoThread),
         }

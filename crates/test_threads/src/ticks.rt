@@ -1,7 +1,7 @@
 // la_tick: that the input's bytes come through a thread, and ticks where it rests.
 ghost use Rattle.std.specs.Prelude.{◌≤◌, length};
 
-use la_tick::Ticked;
+use la_tick::{TickFault, Ticked};
 use std::alloc::Global;
 use std::io::{self, ErrorKind, Read};
 use std::process::Abort;
@@ -77,12 +77,33 @@ fn counter<R: Abort>(rt: &R, alloc: Global) -> Arc<AtomicU64> {
     }
 }
 
+// Whether the first interval begins anew with what comes.
+#[derive(Clone, Copy)]
+enum Anew {
+    Yes,
+    No,
+}
+
+fn reader<R: Threads + Wait + Clock + Copy + Send + Drop + 'static>(
+    rt: R,
+    alloc: Global,
+    script: Script<R>,
+    first: u64,
+    anew: Anew,
+) -> Result<Ticked<R>, TickFault> {
+    match anew {
+        Anew::Yes => Ticked::new(rt, alloc, script, first),
+        Anew::No => Ticked::whatever_comes(rt, alloc, script, first),
+    }
+}
+
 // The script's reader, and a count of ticks that it waits by. Where memory was refused it is made again.
 fn ticked<R: Abort + Threads + Wait + Clock + Copy + Send + Drop + 'static>(
     rt: R,
     alloc: Global,
     steps: &'static [Step],
     first: u64,
+    anew: Anew,
 ) -> (Ticked<R>, Arc<AtomicU64>) {
     let seen = counter(&rt, alloc);
     let theirs = match Arc::try_clone(&seen) {
@@ -98,7 +119,7 @@ fn ticked<R: Abort + Threads + Wait + Clock + Copy + Send + Drop + 'static>(
         steps,
         seen: theirs,
     };
-    let made = match Ticked::new(rt, alloc, script, first) {
+    let made = match reader(rt, alloc, script, first, anew) {
         Ok(made) => made,
         Err(_) => {
             let script = Script {
@@ -106,7 +127,7 @@ fn ticked<R: Abort + Threads + Wait + Clock + Copy + Send + Drop + 'static>(
                 steps,
                 seen: again,
             };
-            Ticked::new(rt, alloc, script, first).expect(&rt, "memory is there again")
+            reader(rt, alloc, script, first, anew).expect(&rt, "memory is there again")
         }
     };
     (made, seen)
@@ -193,7 +214,7 @@ fn bytes_come_as_they_are(rt: HostRuntime) {
         Step::Say(b"\nthree"),
     ];
     for each in [1, 3, 8192] {
-        let (mut input, seen) = ticked(rt, rt.alloc(), &STEPS, NEVER);
+        let (mut input, seen) = ticked(rt, rt.alloc(), &STEPS, NEVER, Anew::Yes);
         let lines = lines_of(&rt, rt.alloc(), &mut input, &seen, each);
         assert!(rt;
             lines.kept.as_slice() == b"one\ntwo\n\nthree".as_slice(),
@@ -230,7 +251,7 @@ fn ticks_come_between_lines_alone(rt: HostRuntime) {
         Step::Rest(100),
     ];
     for each in [1, 3, 8192] {
-        let (mut input, seen) = ticked(rt, rt.alloc(), &STEPS, 10);
+        let (mut input, seen) = ticked(rt, rt.alloc(), &STEPS, 10, Anew::Yes);
         let lines = lines_of(&rt, rt.alloc(), &mut input, &seen, each);
         assert!(rt;
             lines.kept.as_slice() == b"a\nbc\nde\nf".as_slice(),
@@ -244,11 +265,54 @@ fn ticks_come_between_lines_alone(rt: HostRuntime) {
 fn an_interval_doubles(rt: HostRuntime) {
     const STEPS: [Step; 1] = [Step::Until(4)];
     let begun = Instant::now(&rt).expect(&rt, "a clock");
-    let (mut input, seen) = ticked(rt, rt.alloc(), &STEPS, 20);
+    let (mut input, seen) = ticked(rt, rt.alloc(), &STEPS, 20, Anew::Yes);
     let lines = lines_of(&rt, rt.alloc(), &mut input, &seen, 8192);
     let took = begun.elapsed(&rt).expect(&rt, "a clock");
     assert!(rt; lines.ticks >= 4);
     assert!(rt; took >= Duration::from_millis(20 + 40 + 80 + 160));
+}
+
+// It doubles whatever comes, where none begins anew.
+#[test]
+fn no_input_begins_it_anew(rt: HostRuntime) {
+    const STEPS: [Step; 8] = [
+        Step::Until(1),
+        Step::Say(b"a\n"),
+        Step::Until(2),
+        Step::Say(b"b\n"),
+        Step::Until(3),
+        Step::Say(b"c\n"),
+        Step::Until(4),
+        Step::Say(b"d\n"),
+    ];
+    let begun = Instant::now(&rt).expect(&rt, "a clock");
+    let (mut input, seen) = ticked(rt, rt.alloc(), &STEPS, 20, Anew::No);
+    let lines = lines_of(&rt, rt.alloc(), &mut input, &seen, 8192);
+    let took = begun.elapsed(&rt).expect(&rt, "a clock");
+    assert!(rt; lines.ticks >= 4);
+    assert!(rt; took >= Duration::from_millis(20 + 40 + 80 + 160));
+}
+
+// Input that does not rest for an interval puts no tick off.
+#[test]
+fn a_busy_input_ticks(rt: HostRuntime) {
+    const STEPS: [Step; 9] = [
+        Step::Say(b"a\n"),
+        Step::Rest(20),
+        Step::Say(b"b\n"),
+        Step::Rest(20),
+        Step::Say(b"c\n"),
+        Step::Rest(20),
+        Step::Say(b"d\n"),
+        Step::Rest(20),
+        Step::Say(b"e\n"),
+    ];
+    for anew in [Anew::Yes, Anew::No] {
+        let (mut input, seen) = ticked(rt, rt.alloc(), &STEPS, 30, anew);
+        let lines = lines_of(&rt, rt.alloc(), &mut input, &seen, 8192);
+        assert!(rt; lines.kept.as_slice() == b"a\nb\nc\nd\ne\n".as_slice());
+        assert!(rt; lines.ticks >= 1);
+    }
 }
 
 // A read that was interrupted is made again.
@@ -260,7 +324,7 @@ fn a_fault_comes_behind_the_bytes(rt: HostRuntime) {
         Step::Fail(ErrorKind::TimedOut),
     ];
     let mut buf = [0u8; 8];
-    let (mut input, _seen) = ticked(rt, rt.alloc(), &FAILS, NEVER);
+    let (mut input, _seen) = ticked(rt, rt.alloc(), &FAILS, NEVER, Anew::Yes);
     assert!(rt; input.read(&mut buf).is_ok_and(|count| count == 1));
     assert!(rt;
         input
@@ -273,6 +337,6 @@ fn a_fault_comes_behind_the_bytes(rt: HostRuntime) {
 #[test]
 fn a_reader_may_go_first(rt: HostRuntime) {
     const STEPS: [Step; 3] = [Step::Rest(50), Step::Say(b"a\n"), Step::Say(b"b\n")];
-    let (input, _seen) = ticked(rt, rt.alloc(), &STEPS, 10);
+    let (input, _seen) = ticked(rt, rt.alloc(), &STEPS, 10, Anew::Yes);
     drop(input);
 }

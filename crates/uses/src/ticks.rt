@@ -9,7 +9,7 @@ use std::sync::Wait;
 use std::thread::Threads;
 use std::time::Clock;
 
-/// An input that ticks where nothing came for so many seconds, at least for a millisecond.
+/// An input that ticks where so many seconds have passed, at least a millisecond.
 pub fn ticking<R, I>(rt: R, alloc: Global, input: I, seconds: u32) -> Result<Ticked<R>, TickFault>
 where
     R: Threads + Wait + Clock + Copy + Send + Drop + 'static,
