@@ -6,8 +6,6 @@ from dataclasses import dataclass
 
 from oracle.lines import Fault
 
-# Callers and tests, which stand beside the library.
-BESIDE = re.compile(r"test_\w+|uses(_\w+)?|exactness|worked_runs")
 SECTION = re.compile(r"^## The crates\n(.*?)(?=^#|\Z)", re.M | re.S)
 ENTRY = re.compile(r"^- \*(\w+)\*:(.*?)(?=^- |^$|\Z)", re.M | re.S)
 NAME = re.compile(r"`(\w+)`")
@@ -57,7 +55,7 @@ def groups_of(readme: str, names: set[str]) -> dict[str, str]:
 
 def library(crates: str, readme: str) -> Library:
     """The library of these two texts, of which every crate must be in a group."""
-    uses = {name: used for name, used in listed(crates).items() if not BESIDE.fullmatch(name)}
+    uses = listed(crates)
     below = {name: {it for it in used if it in uses} for name, used in uses.items()}
     groups = groups_of(readme, set(below))
     if missing := sorted(set(below) - set(groups)):
