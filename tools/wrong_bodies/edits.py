@@ -106,8 +106,9 @@ def without_brackets(text: str) -> str:
 
 
 def words(text: str) -> str:
-    """The last names of the paths in a type, in a row: `Vec<io::Error>` is `VecError`."""
-    return "".join(it.rpartition("::")[2] for it in re.findall(r"[\w:]+", text))
+    """The last names of the paths in a type, in a row, but for parameters: `Vec<io::Error>` is `VecError`."""
+    names = [it.rpartition("::")[2] for it in re.findall(r"[\w:]+", text.replace("[", "Array "))]
+    return "".join(it[0].upper() + it[1:] for it in names if not re.fullmatch(r"[A-Z]", it))
 
 
 def owner_of(line: str, module: str, sources: dict[str, str]) -> str | None:
@@ -159,10 +160,11 @@ def functions(file: str, sources: dict[str, str]) -> Iterator[Function]:
 
 def end_of(lines: list[str], first: int, indent: str) -> int:
     """The last line of a function: that of its bracket, or where it has no body that of its last clause."""
-    begun = False
+    begun, depth = False, 0
     for at in range(first, len(lines)):
         line = lines[at]
-        if line in (indent + "}", indent + "{}") or not begun and line.endswith(("{}", ";")):
+        depth += line.count("{") - line.count("}")
+        if line in (indent + "}", indent + "{}") or not (begun or depth) and line.endswith(("{}", ";")):
             return at
         begun = begun or line.endswith("{") and (at == first or line.startswith((indent + "{", indent + ")")))
     return len(lines) - 1
@@ -175,7 +177,7 @@ def changed(applied: Applied, crate: Path) -> list[Function] | None:
     found: dict[str, Function] = {}
     for file, lines in applied.lines.items():
         inside = list(functions(file, sources)) if file.startswith("src/") else []
-        for number in lines:
+        for number in sorted(lines):
             around = [it for it in inside if it.first <= number <= it.last]
             if not around:
                 return None

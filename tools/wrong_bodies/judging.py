@@ -13,7 +13,7 @@ from dataclasses import dataclass
 from wrong_bodies.edits import Function
 
 PLACED = re.compile(r"(note: )?(?:\./)?((?:src|specs|proofs)/[^:]+\.\w+):(\d+):\d+: (.*)", re.S)
-GOAL = re.compile(r"it is not proved that .*?\(`([^`]+)`\)(.*)", re.S)
+GOAL = re.compile(r"(?:it is not proved that|`search` found no proof) .*?\(`([^`]+)`\)(.*)", re.S)
 ERROR = re.compile(r"error: (?:`([^`]+)`: )?(.*)", re.S)
 QUOTED = re.compile(r"`[^`]*`")
 
@@ -21,7 +21,7 @@ COMPILER = re.compile(r"\berror\[[\w-]+\]")
 STALE = re.compile(r"Run the lower steps again")
 # of a text that can't be read, or that names what is gone
 UNREAD = re.compile(
-    r"not in scope|has no `|has no (?:field|function)|is no name|(?:operand|case) is missing|expected the end"
+    r"not in scope(?! here, so what is shown)|has no `|has no (?:field|function)|is no name|(?:operand|case) is missing|expected the end"
     r"|cannot continue|cannot be read|no line brings it in"
 )
 # of the prover's limits at a declaration, and of its own faults
@@ -31,7 +31,7 @@ LIMIT = re.compile(
 )
 GAVE_UP = re.compile(r"gave up at one of its limits|stopped at its own limit|stopped \d+ lemmas deep")
 FALSE = re.compile(r"allow values at which this goal is false|the goal fails at")
-OFFERED = re.compile(r"help: (?:write|add these lines to) \./(proofs/\S+)[ ,]")
+OFFERED = re.compile(r"help: (?:write|add these lines to) \./(proofs/\S+?\.antt)\b")
 ASKS = "grind (arith, common_steps)"
 BRINGS = {"arith": "Rattle.std.proofs.Common", "common_steps": "Rattle.std.proofs.lemmas.Grind"}
 LAW = re.compile(r"the law does not hold of the members that this `impl` gives")

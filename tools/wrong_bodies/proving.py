@@ -7,11 +7,12 @@ import shutil
 import subprocess
 import tempfile
 import time
-from dataclasses import dataclass
-from functools import partial
+from collections.abc import Iterator
+from contextlib import suppress
+from dataclasses import dataclass, replace
 from pathlib import Path
 
-from wrong_bodies.edits import PARTS, Applied, Function, Unfit, apply, changed
+from wrong_bodies.edits import PARTS, Function, Unfit, apply, changed
 from wrong_bodies.judging import Verdict, asked_again, judge
 
 SECONDS = 1800
@@ -25,7 +26,6 @@ class Tried:
     verdict: Verdict
     functions: str
     processor: float
-    clock: float
 
 
 class Workspace:
@@ -48,11 +48,13 @@ class Workspace:
 
     def all_below(self, crate: str) -> list[str]:
         """The libraries of the workspace below a crate."""
-        found: dict[str, None] = {}
-        for it in self.below[crate]:
-            if it in self.below:
-                found |= dict.fromkeys([it, *self.all_below(it)])
-        return list(found)
+        found, left = [], list(self.below[crate])
+        while left:
+            it = left.pop()
+            if it in self.below and it not in found:
+                found.append(it)
+                left += self.below[it]
+        return sorted(found)
 
     def words(self, crate: str, folder: Path, functions: list[Function] | None) -> list[str]:
         """The check's command, for a crate that lies in a folder."""
@@ -73,36 +75,79 @@ class Workspace:
             *(word for it in functions or [] for word in ("--only", it.path)),
         ]
 
-    def try_edit(self, edit: Path) -> Tried:
-        """Tries a wrong body, by proving the functions that it changes, or by a whole check if it changes other text."""
-        crate, began = edit.parent.parent, time.monotonic()
+    def try_group(self, edits: list[Path]) -> Iterator[tuple[Path, Tried]]:
+        """Tries wrong bodies that may be tried together, and alone each that is not refused so."""
+        together: dict[Path, Tried] = {}
+        if len(edits) > 1:
+            with suppress(Unfit, OSError, UnicodeDecodeError):
+                together = self.try_all(edits)
+        for it in edits:
+            before = together.get(it)
+            if before and before.verdict.refused:
+                yield it, before
+                continue
+            try:
+                alone = self.try_all([it])[it]
+            except (Unfit, OSError, UnicodeDecodeError) as why:
+                alone = Tried(Verdict(False, str(why)), "", 0.0)
+            yield it, replace(alone, processor=alone.processor + (before.processor if before else 0.0))
+
+    def try_all(self, edits: list[Path]) -> dict[Path, Tried]:
+        """Puts wrong bodies into one copy of their crate, and proves the functions that they change, or all if one of
+        them changes other text. Where a search gave up these functions are proved once more."""
+        crate = edits[0].parent.parent
+        with tempfile.TemporaryDirectory(prefix="wrong-body-") as scratch:
+            folder = Path(scratch)
+            copy(crate, folder)
+            applied, functions = {}, {}
+            for it in edits:
+                applied[it] = apply(it.read_text(encoding="utf-8"), folder)
+                write(applied[it].texts, folder)
+                functions[it] = changed(applied[it], folder)
+            found, left = {}, edits
+            while left:
+                only = None if None in functions.values() else [f for it in left for f in functions[it] or []]
+                said, status, processor = call(self.words(crate.name, folder, only), folder)
+                again: dict[str, str] = {}
+                asked = []
+                for it in left:
+                    verdict = judge(said, status, functions[it] or [], frozenset(applied[it].texts))
+                    told = "by a whole check" if only is None else " ".join(f.path for f in functions[it] or [])
+                    before = found[it].processor if it in found else 0.0
+                    new = asked_again(said, verdict.gave_up, lambda file: again.get(file) or text_of(folder, file))
+                    if new and it not in found:
+                        asked.append(it)
+                        again |= new
+                    found[it] = Tried(verdict, told, before + processor / len(left))
+                write(again, folder)
+                left = asked
+        return found
+
+
+def groups(edits: list[Path]) -> list[list[Path]]:
+    """Wrong bodies that may be tried together: those of one crate that change different functions, and no other text.
+    What a function calls it knows by contracts alone, so that one wrong body changes no verdict on another."""
+    found: list[tuple[list[Path], set[str]]] = []
+    for edit in edits:
+        crate = edit.parent.parent
         try:
-            applied = apply(edit.read_text(encoding="utf-8"), crate)
-            functions = changed(applied, crate)
-            with tempfile.TemporaryDirectory(prefix="wrong-body-") as scratch:
-                folder = Path(scratch)
-                put(applied, crate, folder)
-                words = self.words(crate.name, folder, functions)
-                said, status, processor = call(words, folder)
-                verdict = judge(said, status, functions or [], frozenset(applied.texts))
-                again = asked_again(said, verdict.gave_up, partial(text_of, folder))
-                if again:
-                    write(again, folder)
-                    said, status, more = call(words, folder)
-                    verdict = judge(said, status, functions or [], frozenset(applied.texts))
-                    processor += more
-        except (Unfit, OSError, UnicodeDecodeError) as why:
-            return Tried(Verdict(False, str(why)), "", 0.0, time.monotonic() - began)
-        told = " ".join(it.path for it in functions) if functions is not None else "by a whole check"
-        return Tried(verdict, told, processor, time.monotonic() - began)
+            paths = {it.path for it in changed(apply(edit.read_text(encoding="utf-8"), crate), crate) or []}
+        except (Unfit, OSError, UnicodeDecodeError):
+            paths = set()
+        for others, taken in found:
+            if paths and taken and crate == others[0].parent.parent and not paths & taken:
+                others.append(edit)
+                taken |= paths
+                break
+        else:
+            found.append(([edit], paths))
+    return [others for others, _ in found]
 
 
-def put(applied: Applied, crate: Path, folder: Path) -> None:
-    """Copies a crate with the edited texts in place of its own."""
+def copy(crate: Path, folder: Path) -> None:
     for part in PARTS:
         if (crate / part).is_dir():
             shutil.copytree(crate / part, folder / part)
-    write(applied.texts, folder)
 
 
 def write(texts: dict[str, str], folder: Path) -> None:
