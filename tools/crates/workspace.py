@@ -22,6 +22,8 @@ def make(folder: Path, names: Iterable[str] | None = None) -> list[str]:
             to = folder / "crates" / name / inner
             to.parent.mkdir(parents=True, exist_ok=True)
             shutil.copyfile(path, to)
+        if (crate.folder / "wrong-bodies").is_dir():
+            shutil.copytree(crate.folder / "wrong-bodies", folder / "crates" / name / "wrong-bodies")
         for name_of_stream in STREAMS:
             if (crate.folder / name_of_stream).is_file():
                 shutil.copyfile(crate.folder / name_of_stream, folder / "crates" / name / name_of_stream)

@@ -1,6 +1,9 @@
 // The reads of the reader that ticks.
 ghost use Rattle.std.specs.Prelude.{◌≡◌, ◌<◌, ◌++◌, List, ℕ, true, [], None, IsSome, length};
 ghost use Rattle.std.specs.Io.{ReadsAtMost};
+ghost use Rattle.std.specs.declared.io.ErrorKind.TheVariants.{BrokenPipe};
+ghost use Rattle.la_tick.specs.declared.feed.Ending.TheVariants.{Failed};
+ghost use Rattle.la_tick.specs.declared.reading.Note.TheVariants.{Last};
 ghost use Rattle.la_tick.specs.Paces.{IsSameManner};
 ghost use Rattle.la_tick.specs.Ticks.{Hearing, Stands, HandsOn, EndsAs, in_hand, handed_by};
 
@@ -12,6 +15,13 @@ use crossbeam_channel::RecvTimeoutError;
 use std::io::{self, ErrorKind, Read};
 use std::sync::Wait;
 use std::time::{Clock, Duration, Instant};
+
+// What is heard where the thread is gone: that a read failed, and not the input's end, which it tells before it goes.
+fn gone() -> Note
+    ensures { result ≡ Last (Failed BrokenPipe) }
+{
+    Note::Last(Ending::Failed(ErrorKind::BrokenPipe))
+}
 
 impl<R: Wait + Clock + Drop> Ticked<R> {
     // How long more the interval lasts, which is of so many milliseconds: from its begin on, where that is known, and
@@ -37,7 +47,7 @@ impl<R: Wait + Clock + Drop> Ticked<R> {
         let Some(millis) = self.feed.patience() else {
             return match self.notes.recv(&self.rt) {
                 Ok(note) => Some(note),
-                Err(_) => Some(Note::Last(Ending::Failed(ErrorKind::BrokenPipe))),
+                Err(_) => Some(gone()),
             };
         };
         let limit = self.rest_of(millis);
@@ -47,9 +57,7 @@ impl<R: Wait + Clock + Drop> Ticked<R> {
         match self.notes.recv_timeout(&self.rt, limit) {
             Ok(note) => Some(note),
             Err(RecvTimeoutError::Timeout) => None,
-            Err(RecvTimeoutError::Disconnected) => {
-                Some(Note::Last(Ending::Failed(ErrorKind::BrokenPipe)))
-            }
+            Err(RecvTimeoutError::Disconnected) => Some(gone()),
         }
     }
 

@@ -1,5 +1,5 @@
 // How long it takes to the next tick.
-ghost use Rattle.std.specs.Prelude.{◌≡◌, ℕ, ◌+◌, ◌<◌, max, if◌then◌else◌};
+ghost use Rattle.std.specs.Prelude.{◌≡◌, ℕ, ◌+◌, ◌<◌, max, nat_lt, false, if◌then◌else◌};
 ghost use Rattle.la_tick.specs.Paces.{interval, IsSameManner};
 
 // The longest interval, in milliseconds, unless the first is longer.
@@ -29,7 +29,9 @@ impl Pace {
     }
 
     // Whether it has doubled, and begins anew with what comes.
-    pub(crate) fn is_slow(&self) -> bool {
+    pub(crate) fn is_slow(self) -> bool
+        ensures { result ≡ (if self.anew then nat_lt self.first self.now else false) }
+    {
         self.anew && self.now > self.first
     }
 
