@@ -23,7 +23,7 @@ class Unfit(Exception):
 
 @dataclass(frozen=True)
 class Function:
-    """A function of a file of src: its path below the crate, and its first and last line."""
+    """A function of a file of src: its path below the crate, and its first and last line, with its attributes."""
 
     path: str
     file: str
@@ -155,7 +155,14 @@ def functions(file: str, sources: dict[str, str]) -> Iterator[Function]:
             continue
         last = end_of(lines, at, head[1])
         above = [it for it in (owner if head[1] else module,) if it]
-        yield Function("::".join([*above, head[2]]), file, at + 1, last + 1)
+        yield Function("::".join([*above, head[2]]), file, first_of(lines, at) + 1, last + 1)
+
+
+def first_of(lines: list[str], head: int) -> int:
+    """The first line of a function's attributes, where its goals are told, or of itself."""
+    while head and lines[head - 1].lstrip().startswith("#["):
+        head -= 1
+    return head
 
 
 def end_of(lines: list[str], first: int, indent: str) -> int:
