@@ -30,22 +30,11 @@ class Function:
     first: int
     last: int
 
-    @property
-    def name(self) -> str:
-        return self.path.rpartition("::")[2]
-
-    def folders(self) -> tuple[str, ...]:
-        """Where files of its proof stand, and of its closures'."""
-        module, _, own = self.path.rpartition("::")
-        parts = module.split("::") if module else []
-        inner = "/".join(["proofs", *parts, own])
-        return inner + "/", "/".join(["proofs", *self.of_closures().split("::")]) + "/"
-
-    def of_closures(self) -> str:
-        """The path of its closures, less their own names."""
+    def folders(self) -> tuple[str, str]:
+        """Where the files of its proof stand, and those of its closures'."""
         parts = self.path.split("::")
         at = next((i for i, it in enumerate(parts) if it[:1].isupper()), len(parts) - 1)
-        return "::".join([*parts[:at], "fn", *parts[at:]])
+        return "/".join(["proofs", *parts, ""]), "/".join(["proofs", *parts[:at], "fn", *parts[at:], ""])
 
 
 @dataclass(frozen=True)
