@@ -23,29 +23,18 @@ class Unfit(Exception):
 
 @dataclass(frozen=True)
 class Function:
-    """A function of a file of src: its path below the crate, and its first and last line."""
+    """A function of a file of src: its path below the crate, and its first and last line, with its attributes."""
 
     path: str
     file: str
     first: int
     last: int
 
-    @property
-    def name(self) -> str:
-        return self.path.rpartition("::")[2]
-
-    def folders(self) -> tuple[str, ...]:
-        """Where files of its proof stand, and of its closures'."""
-        module, _, own = self.path.rpartition("::")
-        parts = module.split("::") if module else []
-        inner = "/".join(["proofs", *parts, own])
-        return inner + "/", "/".join(["proofs", *self.of_closures().split("::")]) + "/"
-
-    def of_closures(self) -> str:
-        """The path of its closures, less their own names."""
+    def folders(self) -> tuple[str, str]:
+        """Where the files of its proof stand, and those of its closures'."""
         parts = self.path.split("::")
         at = next((i for i, it in enumerate(parts) if it[:1].isupper()), len(parts) - 1)
-        return "::".join([*parts[:at], "fn", *parts[at:]])
+        return "/".join(["proofs", *parts, ""]), "/".join(["proofs", *parts[:at], "fn", *parts[at:], ""])
 
 
 @dataclass(frozen=True)
@@ -155,7 +144,14 @@ def functions(file: str, sources: dict[str, str]) -> Iterator[Function]:
             continue
         last = end_of(lines, at, head[1])
         above = [it for it in (owner if head[1] else module,) if it]
-        yield Function("::".join([*above, head[2]]), file, at + 1, last + 1)
+        yield Function("::".join([*above, head[2]]), file, first_of(lines, at) + 1, last + 1)
+
+
+def first_of(lines: list[str], head: int) -> int:
+    """The first line of a function's attributes, where its goals are told, or of itself."""
+    while head and lines[head - 1].lstrip().startswith("#["):
+        head -= 1
+    return head
 
 
 def end_of(lines: list[str], first: int, indent: str) -> int:

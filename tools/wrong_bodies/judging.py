@@ -21,8 +21,8 @@ COMPILER = re.compile(r"\berror\[[\w-]+\]")
 STALE = re.compile(r"Run the lower steps again")
 # of a text that can't be read, or that names what is gone
 UNREAD = re.compile(
-    r"not in scope(?! here, so what is shown)|has no `|has no (?:field|function)|is no name|(?:operand|case) is missing|expected the end"
-    r"|cannot continue|cannot be read|no line brings it in"
+    r"not in scope(?! here, so what is shown)|has no `|has no (?:field|function)|is no name|(?:operand|case) is missing"
+    r"|expected the end|cannot continue|cannot be read|no line brings it in"
 )
 # of the prover's limits at a declaration, and of its own faults
 LIMIT = re.compile(
@@ -110,12 +110,15 @@ def is_limit(message: str) -> bool:
     return bool(is_told and LIMIT.search(QUOTED.sub("``", message)))
 
 
-def asked_again(said: str, goals: tuple[str, ...], text_of: Callable[[str], str]) -> dict[str, str]:
-    """The files of answers, with `grind` asked for goals at which a search gave up: it says where a goal fails."""
+def asked_again(
+    said: str, goals: tuple[str, ...], changed: list[Function], text_of: Callable[[str], str]
+) -> dict[str, str]:
+    """The files of these functions' answers, with `grind` asked for goals at which a search gave up: it says where a
+    goal fails."""
     texts: dict[str, str] = {}
     for message in messages(said):
         offered = OFFERED.match(message)
-        if not offered:
+        if not offered or not any(offered[1].startswith(it.folders()) for it in changed):
             continue
         file, lines = offered[1], [it.strip() for it in message.split("\n")[1:]]
         wanted = [it for it in lines if it.split(" ")[0] in goals and it.endswith(" = ?")]
@@ -123,8 +126,10 @@ def asked_again(said: str, goals: tuple[str, ...], text_of: Callable[[str], str]
             continue
         text = texts.get(file) or text_of(file)
         uses = [it for it in lines if it.endswith(".Goals as goal") and it not in text]
-        uses += [f"use {place}.{{{it}}}" for it, place in BRINGS.items() if not re.search(rf"^use .*\b{it}\b", text, re.M)]
-        asks = [f"pub {it.split(' ')[0]} : goal.{it.split(' ')[0]}\n{it.removesuffix('?')}{ASKS}" for it in wanted]
+        brought = {it for it in BRINGS if re.search(rf"^use .*\b{it}\b", text, re.M)}
+        uses += [f"use {place}.{{{it}}}" for it, place in BRINGS.items() if it not in brought]
+        names = [it.split(" ")[0] for it in wanted]
+        asks = [f"pub {name} : goal.{name}\n{it.removesuffix('?')}{ASKS}" for name, it in zip(names, wanted)]
         texts[file] = "\n".join([*uses, text, *asks, ""])
     return texts
 

@@ -10,6 +10,7 @@ import time
 from collections.abc import Iterator
 from contextlib import suppress
 from dataclasses import dataclass, replace
+from functools import partial
 from pathlib import Path
 
 from wrong_bodies.edits import PARTS, Function, Unfit, apply, changed
@@ -114,9 +115,9 @@ class Workspace:
                     verdict = judge(said, status, functions[it] or [], frozenset(applied[it].texts))
                     told = "by a whole check" if only is None else " ".join(f.path for f in functions[it] or [])
                     before = found[it].processor if it in found else 0.0
-                    new = asked_again(said, verdict.gave_up, lambda file: again.get(file) or text_of(folder, file))
-                    if new and it not in found:
-                        asked.append(it)
+                    if verdict.gave_up and it not in found:
+                        new = asked_again(said, verdict.gave_up, functions[it] or [], partial(text_of, folder))
+                        asked += [it] if new else []
                         again |= new
                     found[it] = Tried(verdict, told, before + processor / len(left))
                 write(again, folder)
