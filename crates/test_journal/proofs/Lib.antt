@@ -1,2 +1,1 @@
 mod Ups
-mod Telling

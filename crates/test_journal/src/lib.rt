@@ -19,8 +19,6 @@ mod made;
 mod recorded;
 mod tally;
 #[cfg(test)]
-mod told;
-#[cfg(test)]
 mod torn;
 
 pub use kept::{Uncounted, counted_in};

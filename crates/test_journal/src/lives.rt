@@ -4,10 +4,9 @@ ghost use Rattle.std.specs.Prelude.{◌≡◌, false};
 ghost use Rattle.la_journal.specs.Durable.{IsSettled};
 
 use crate::given::{Start, disk_of, has, holds, recovered, started, tally_over};
-use crate::told::Told;
 use crate::torn::{Way, are_met, behind, torn_of};
 use crate::{Move, Tally, Total};
-use la_journal::{Disk, Durable, MemoryDisk, Refused, serve_all, serve_groups, start_again};
+use la_journal::{Disk, Durable, MemoryDisk, Refused, Staged};
 use std::alloc::Global;
 use std::process::Abort;
 
@@ -34,34 +33,130 @@ const LIVES: &[(Life, Life)] = &[
 // The bytes of a group of one move, with its record.
 const GROUP: usize = 40;
 
-// One life, and the start of the next one: what was given out are the numbers that follow one another from where it
-// began, as many as there were syncs, and the next one has them.
-fn lives<A: Abort + Copy + Drop>(
-    rt: &A,
+// Stages a move up, and what it answers, which is not told yet.
+fn staged(rt: &impl Abort, alloc: Global, node: &mut Staged<Tally, MemoryDisk>) -> Total
+    requires { node.old.durable.closed ≡ false
+        → IsSettled ⟦<MemoryDisk as Disk>⟧.seen ⟦<MemoryDisk as Disk>⟧.may_leave node.old.durable.disk }
+    ensures { node.new.durable.closed ≡ false
+        → IsSettled ⟦<MemoryDisk as Disk>⟧.seen ⟦<MemoryDisk as Disk>⟧.may_leave node.new.durable.disk }
+{
+    let Ok(total) = node.stage(alloc, &Move::Up) else {
+        panic!(rt; "not staged");
+    };
+    total
+}
+
+// Has what is staged on the disk, and then tells the answers. Whether the disk did not fail.
+fn told(
+    rt: &impl Abort,
+    node: &mut Staged<Tally, MemoryDisk>,
+    answers: &[Total],
+    told: &mut Vec<Total>,
+) -> bool
+    requires { node.old.durable.closed ≡ false
+        → IsSettled ⟦<MemoryDisk as Disk>⟧.seen ⟦<MemoryDisk as Disk>⟧.may_leave node.old.durable.disk }
+    ensures { node.new.durable.closed ≡ false
+        → IsSettled ⟦<MemoryDisk as Disk>⟧.seen ⟦<MemoryDisk as Disk>⟧.may_leave node.new.durable.disk }
+{
+    if node.commit().is_err() {
+        return false;
+    }
+    let Ok(()) = told.extend_from_slice(answers) else {
+        panic!(rt; "out of memory");
+    };
+    true
+}
+
+// A group of one move up.
+fn one_up(
+    rt: &impl Abort,
+    alloc: Global,
+    node: &mut Staged<Tally, MemoryDisk>,
+    answers: &mut Vec<Total>,
+) -> bool
+    requires { node.old.durable.closed ≡ false
+        → IsSettled ⟦<MemoryDisk as Disk>⟧.seen ⟦<MemoryDisk as Disk>⟧.may_leave node.old.durable.disk }
+    ensures { node.new.durable.closed ≡ false
+        → IsSettled ⟦<MemoryDisk as Disk>⟧.seen ⟦<MemoryDisk as Disk>⟧.may_leave node.new.durable.disk }
+{
+    let total = staged(rt, alloc, node);
+    told(rt, node, &[total], answers)
+}
+
+// A group of two, and then one of one.
+fn two_groups(
+    rt: &impl Abort,
+    alloc: Global,
+    node: &mut Staged<Tally, MemoryDisk>,
+    answers: &mut Vec<Total>,
+) -> bool
+    requires { node.old.durable.closed ≡ false
+        → IsSettled ⟦<MemoryDisk as Disk>⟧.seen ⟦<MemoryDisk as Disk>⟧.may_leave node.old.durable.disk }
+{
+    let first = staged(rt, alloc, node);
+    let second = staged(rt, alloc, node);
+    told(rt, node, &[first, second], answers) && one_up(rt, alloc, node, answers)
+}
+
+// A tally over a disk whose file has no call yet, and which fails after so many syncs, with no line staged.
+fn staged_over(
     alloc: Global,
     mut node: Durable<Tally, MemoryDisk>,
+    syncs: u32,
+) -> Staged<Tally, MemoryDisk>
+    requires { IsSettled ⟦<MemoryDisk as Disk>⟧.seen ⟦<MemoryDisk as Disk>⟧.may_leave node.disk }
+    ensures { IsSettled ⟦<MemoryDisk as Disk>⟧.seen ⟦<MemoryDisk as Disk>⟧.may_leave result.durable.disk }
+{
+    node.disk.fail_after(syncs);
+    Staged::new(alloc, node)
+}
+
+// The next process starts on what a crash left behind what was on the disk.
+fn started_again(
+    rt: &impl Abort,
+    alloc: Global,
+    disk: MemoryDisk,
+    torn: &[u8],
+) -> Durable<Tally, MemoryDisk>
+    ensures settled { IsSettled ⟦<MemoryDisk as Disk>⟧.seen ⟦<MemoryDisk as Disk>⟧.may_leave result.disk }
+    ensures unclosed { result.closed ≡ false }
+{
+    let Ok(Some(found)) = disk.restart(torn) else {
+        panic!(rt; "no restart");
+    };
+    let Ok(next) = recovered(alloc, found) else {
+        panic!(rt; "no start");
+    };
+    next
+}
+
+// One life, and the start of the next one: what was told are the numbers that follow one another from where it began,
+// as many as there were syncs, and the next one has them.
+fn lives(
+    rt: &impl Abort,
+    alloc: Global,
+    node: Durable<Tally, MemoryDisk>,
     life: &Life,
 ) -> Durable<Tally, MemoryDisk>
     requires settled { IsSettled ⟦<MemoryDisk as Disk>⟧.seen ⟦<MemoryDisk as Disk>⟧.may_leave node.disk }
-    requires unclosed { node.closed ≡ false }
     ensures settled { IsSettled ⟦<MemoryDisk as Disk>⟧.seen ⟦<MemoryDisk as Disk>⟧.may_leave result.disk }
     ensures unclosed { result.closed ≡ false }
 {
     let begun = node.machine.total;
-    node.disk.fail_after(life.0);
-    let mut told = Told::new(rt, alloc);
-    let served = serve_all(alloc, &mut node, &[Move::Up, Move::Up, Move::Up], &mut told);
-    holds(rt, "an end", served.is_ok() == (life.0 == 3));
+    let mut node = staged_over(alloc, node, life.0);
+    let mut answers = Vec::new(alloc);
+    let served = one_up(rt, alloc, &mut node, &mut answers)
+        && one_up(rt, alloc, &mut node, &mut answers)
+        && one_up(rt, alloc, &mut node, &mut answers);
+    holds(rt, "an end", served == (life.0 == 3));
     holds(
         rt,
         "answers",
-        follow(&told.given, begun) && told.given.len() == life.0 as usize,
+        follow(&answers, begun) && answers.len() == life.0 as usize,
     );
-    let torn = torn_by(rt, alloc, &node.disk, life.1);
-    let Durable { disk, .. } = node;
-    let Ok(Some(next)) = start_again(alloc, disk, &torn, Tally { total: 0 }) else {
-        panic!(rt; "no start");
-    };
+    let Staged { durable, .. } = node;
+    let torn = torn_by(rt, alloc, &durable.disk, life.1);
+    let next = started_again(rt, alloc, durable.disk, &torn);
     holds(rt, "a start", next.machine.total == life.2);
     next
 }
@@ -77,9 +172,9 @@ fn torn_by(rt: &impl Abort, alloc: Global, disk: &MemoryDisk, left: Left) -> Vec
 }
 
 // Whether these are the numbers behind one.
-fn follow(given: &[(u64, Total)], begun: u64) -> bool {
+fn follow(answers: &[Total], begun: u64) -> bool {
     let mut last = begun;
-    for (_, total) in given {
+    for total in answers {
         if last == u64::MAX || *total != Total::Moved(last + 1) {
             return false;
         }
@@ -132,65 +227,40 @@ fn a_crash_during_a_start(rt: HostRuntime) {
 
 // After so many syncs the disk fails, of two groups of two and one: so many answers, and where the next life begins, if
 // the crash leaves none of the group whose sync failed, and if it leaves all of it.
-const GROUPS: &[(u32, usize, (u64, u64))] = &[(0, 0, (0, 2)), (1, 1, (2, 3))];
-
-fn groups_of(rt: &impl Abort, alloc: Global) -> Vec<Vec<Move>> {
-    let Ok(groups) = two_groups(alloc) else {
-        panic!(rt; "out of memory");
-    };
-    groups
-}
-
-fn two_groups(alloc: Global) -> Result<Vec<Vec<Move>>, std::alloc::AllocError> {
-    Ok(vec![in alloc;
-        vec![in alloc; Move::Up, Move::Up]?,
-        vec![in alloc; Move::Up]?,
-    ]?)
-}
+const GROUPS: &[(u32, usize, (u64, u64))] = &[(0, 0, (0, 2)), (1, 2, (2, 3))];
 
 #[test]
 fn lives_in_groups(rt: HostRuntime) {
     let alloc = rt.alloc();
     for (syncs, answered, totals) in GROUPS {
-        let mut node = tally_over(&rt, alloc, disk_of(&rt, alloc, &[], b""));
-        node.disk.fail_after(*syncs);
-        let groups = groups_of(&rt, alloc);
-        let mut told = Told::new(&rt, alloc);
-        let served = serve_groups(alloc, &mut node, &groups, &mut told);
-        holds(
-            &rt,
-            "an end",
-            served.is_err() && told.given.len() == *answered,
-        );
-        let kept = kept_of(&rt, alloc, *answered);
-        let met = are_met(alloc, &node.disk, kept, *totals);
+        let node = tally_over(&rt, alloc, disk_of(&rt, alloc, &[], b""));
+        let mut node = staged_over(alloc, node, *syncs);
+        let mut answers = Vec::new(alloc);
+        let served = two_groups(&rt, alloc, &mut node, &mut answers);
+        holds(&rt, "an end", !served && answers.len() == *answered);
+        let kept = kept_of(&rt, alloc, *syncs as usize);
+        let met = are_met(alloc, &node.durable.disk, kept, *totals);
         holds(&rt, "each crash", met);
     }
 }
 
 // The bytes of the first some of these groups.
-fn kept_of(rt: &impl Abort, alloc: Global, answered: usize) -> usize {
+fn kept_of(rt: &impl Abort, alloc: Global, many: usize) -> usize {
     let both: [&[u8]; 2] = [b"u\nu\n", b"u\n"];
-    disk_of(rt, alloc, &both[..answered.min(2)], b"")
-        .bytes()
-        .len()
+    disk_of(rt, alloc, &both[..many.min(2)], b"").bytes().len()
 }
 
 #[test]
 fn a_life_in_groups(rt: HostRuntime) {
     let alloc = rt.alloc();
-    let mut node = tally_over(&rt, alloc, disk_of(&rt, alloc, &[], b""));
-    node.disk.fail_after(2);
-    let groups = groups_of(&rt, alloc);
-    let mut told = Told::new(&rt, alloc);
-    let served = serve_groups(alloc, &mut node, &groups, &mut told);
-    holds(&rt, "an end", served.is_ok() && told.given.len() == 2);
-    holds(
-        &rt,
-        "the groups",
-        has(alloc, &node.disk, &[b"u\nu\n", b"u\n"]),
-    );
-    let Ok(Some(left)) = node.disk.crash(b"") else {
+    let node = tally_over(&rt, alloc, disk_of(&rt, alloc, &[], b""));
+    let mut node = staged_over(alloc, node, 2);
+    let mut answers = Vec::new(alloc);
+    let served = two_groups(&rt, alloc, &mut node, &mut answers);
+    holds(&rt, "an end", served && follow(&answers, 0) && answers.len() == 3);
+    let disk = &node.durable.disk;
+    holds(&rt, "the groups", has(alloc, disk, &[b"u\nu\n", b"u\n"]));
+    let Ok(Some(left)) = disk.crash(b"") else {
         panic!(rt; "out of memory");
     };
     holds(&rt, "a start", started(alloc, left) == Start::At(3, 0));

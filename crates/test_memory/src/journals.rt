@@ -7,7 +7,7 @@ use crate::given::{Came, refused, second};
 use crate::holds::holds;
 use la_journal::{
     Disk, DiskFault, Durable, MemoryDisk, Refused, Staged, Uncommitted, Uncompacted, Unplayed,
-    Unstaged, head_line, record_line, recover, start_again, text_of_head,
+    Unstaged, head_line, record_line, recover, text_of_head,
 };
 use std::alloc::Global;
 use test_journal::{Move, MoveError, Tally, Total};
@@ -113,16 +113,6 @@ fn restarts(alloc: Global) -> Came {
     }
 }
 
-fn starts_anew(alloc: Global) -> Came {
-    let disk = disk_of(alloc, WHOLE)?;
-    match start_again(alloc, disk, b"".as_slice(), Tally { total: 0 }) {
-        Ok(Some(node)) => Some(node.machine.total == 2 && is_text(&node.disk, WHOLE)),
-        Ok(None) => Some(false),
-        Err(Unplayed::Memory | Unplayed::Disk) => None,
-        Err(_) => Some(false),
-    }
-}
-
 // ## Calls
 
 fn handle<D: Disk>(node: &mut Durable<Tally, D>, alloc: Global) -> Came
@@ -138,33 +128,24 @@ fn handle<D: Disk>(node: &mut Durable<Tally, D>, alloc: Global) -> Came
     }
 }
 
-fn handle_all<D: Disk>(
-    node: &mut Durable<Tally, D>,
+// A move that leads from one number to another.
+fn stage<D: Disk>(
+    group: &mut Staged<Tally, D>,
     alloc: Global,
-    answers: &mut Vec<Total>,
+    step: &Move,
+    totals: (u64, u64),
 ) -> Came
-    requires { node.old.closed ≡ false → IsSettled D.seen D.may_leave node.old.disk }
-    ensures { node.new.closed ≡ false → IsSettled D.seen D.may_leave node.new.disk }
-{
-    let came = node.handle_all(alloc, &[Move::Up, Move::Down], answers);
-    match came {
-        Ok(()) => Some(
-            answers.as_slice() == [Total::Moved(3), Total::Moved(2)].as_slice()
-                && node.machine.total == 2,
-        ),
-        Err(Refused::Memory) => refused(answers.is_empty() && node.machine.total == 2),
-        Err(Refused::Disk) => refused(answers.is_empty() && node.closed),
-        Err(_) => Some(false),
-    }
-}
-
-fn stage<D: Disk>(group: &mut Staged<Tally, D>, alloc: Global) -> Came
     requires { group.old.durable.closed ≡ false → IsSettled D.seen D.may_leave group.old.durable.disk }
     ensures { group.new.durable.closed ≡ false → IsSettled D.seen D.may_leave group.new.durable.disk }
 {
-    match group.stage(alloc, &Move::Up) {
-        Ok(total) => Some(total == Total::Moved(3) && group.durable.machine.total == 3),
-        Err(Unstaged::Memory) => refused(group.durable.machine.total == 2 && group.text.is_empty()),
+    let lines = group.text.len();
+    match group.stage(alloc, step) {
+        Ok(total) => {
+            Some(total == Total::Moved(totals.1) && group.durable.machine.total == totals.1)
+        }
+        Err(Unstaged::Memory) => {
+            refused(group.durable.machine.total == totals.0 && group.text.len() == lines)
+        }
         Err(_) => Some(false),
     }
 }
@@ -216,21 +197,6 @@ fn handles(alloc: Global) -> Came {
     }
 }
 
-fn handles_all(alloc: Global) -> Came {
-    let disk = disk_of(alloc, WHOLE)?;
-    let mut node = recovered(alloc, disk).ok()?;
-    let mut answers = Vec::new(alloc);
-    let came = match handle_all(&mut node, alloc, &mut answers) {
-        None if !node.closed => second(alloc, handle_all(&mut node, alloc, &mut answers)),
-        came => came,
-    };
-    if leaves(&node.disk, came, TWO_MORE) {
-        came
-    } else {
-        Some(false)
-    }
-}
-
 fn staged_over<D: Disk>(alloc: Global, node: Durable<Tally, D>) -> Staged<Tally, D>
     requires { IsSettled D.seen D.may_leave node.disk }
     ensures { IsSettled D.seen D.may_leave result.durable.disk }
@@ -244,9 +210,10 @@ fn commits(alloc: Global) -> Came {
         return None;
     };
     let mut group = staged_over(alloc, node);
-    let staged = again!(alloc, stage(&mut group, alloc));
+    let up = again!(alloc, stage(&mut group, alloc, &Move::Up, (2, 3)));
+    let down = again!(alloc, stage(&mut group, alloc, &Move::Down, (3, 2)));
     let came = commit(&mut group);
-    if staged == Some(true) && leaves(&group.durable.disk, came, ONE_MORE) {
+    if up == Some(true) && down == Some(true) && leaves(&group.durable.disk, came, TWO_MORE) {
         came
     } else {
         Some(false)
@@ -323,9 +290,7 @@ fn scenes(alloc: Global) -> Came {
             && again!(alloc, heads(alloc))?
             && again!(alloc, records(alloc))?
             && again!(alloc, restarts(alloc))?
-            && again!(alloc, starts_anew(alloc))?
             && again!(alloc, handles(alloc))?
-            && again!(alloc, handles_all(alloc))?
             && again!(alloc, commits(alloc))?
             && again!(alloc, compacts(alloc))?
             && disks(alloc)?,

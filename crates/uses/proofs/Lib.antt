@@ -12,6 +12,7 @@ mod Together
 mod ByParcels
 mod Restarting
 mod Leasing
-mod Newest
+mod Staging
+mod GroupCalls
 mod Nothing
 pub mod CarriedLines

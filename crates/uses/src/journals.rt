@@ -130,17 +130,17 @@ impl Snapshot for Lease {
 }
 
 // ---- callers
-ghost use Rattle.std.specs.Prelude.{◌≢◌, IfSome, Err};
+ghost use Rattle.std.specs.Prelude.{◌≢◌, ◌-◌, ◌+◌, ◌≤◌, length, take, IfSome, Err};
 ghost use Rattle.la_journal.specs.Journal.{lines};
-ghost use Rattle.la_journal.specs.Machine.{state_after};
+ghost use Rattle.la_journal.specs.Machine.{state_after, calls};
+ghost use Rattle.la_journal.specs.Records.{ended};
 ghost use Rattle.la_journal.specs.Durable.{IsSettled};
 ghost use Rattle.la_journal.specs.declared.durable.Refused.TheVariants.{Machine as ByMachine};
-ghost use Rattle.uses.specs.Journals.{AddsLine, CrashKeepsSome, HoldsAnswered, stated, stated_disk};
+ghost use Rattle.uses.specs.Journals.{AddsLine, AreStaged, CrashKeepsSome, TakesFirst, KeepsAnswered, HoldsAnswered};
+ghost use Rattle.uses.specs.Journals.{stated, stated_disk};
 
 use la_disk::{FileDisk, FolderLock};
-use la_journal::{
-    Disk, Durable, MemoryDisk, Outlet, Refused, Unplayed, laws, recover, serve_all, start_again,
-};
+use la_journal::{Disk, Durable, MemoryDisk, Refused, Staged, Uncommitted, Unplayed, laws, recover};
 
 /// A machine as its journal says, whose bytes were found, ready to be asked: all that was answered before is played,
 /// and is on the disk.
@@ -206,20 +206,68 @@ pub fn answer<M: Machine, D: Disk>(
     }
 }
 
-/// Takes all of these, with one sync. Who starts on what a crash at any moment of that left comes to
-/// where the first some of them lead, none skipped and none in part.
+/// Takes these in turn, up to the first that is refused, with one sync, and puts their answers behind the others; none of
+/// them where the disk fails. Who starts on what a crash at any moment of that left comes to where the first some of them
+/// lead, none skipped and none in part.
 pub fn take_all<M: Machine, D: Disk>(
-    node: &mut Durable<M, D>,
+    node: &mut Staged<M, D>,
     alloc: Global,
     inputs: &[M::Input],
     answers: &mut Vec<M::Output>,
-) -> Result<(), Refused<M::Refusal>>
-    requires { node.old.closed ≡ false → IsSettled D.seen D.may_leave node.old.disk }
+) -> Result<(), Uncommitted>
+    requires settled { node.old.durable.closed ≡ false → IsSettled D.seen D.may_leave node.old.durable.disk }
+    requires none { node.old.text.items ≡ [] }
     ensures crash { CrashKeepsSome (stated M.head M.named_state M.named M.step M.state M.call M.answer)
-        (stated_disk D.seen D.may_leave D.moment D.left_since) inputs.now node.old node.new }
-    ensures ready { node.new.closed ≡ false → IsSettled D.seen D.may_leave node.new.disk }
+        (stated_disk D.seen D.may_leave D.moment D.left_since) inputs.now node.old.durable node.new.durable }
+    ensures taken { (start : M.State) → node.old.durable.closed ≡ false
+        → state_after M.head M.named_state M.named M.step start (D.seen node.old.durable.disk) ≡ Some (M.state node.old.durable.machine)
+        → TakesFirst (stated M.head M.named_state M.named M.step M.state M.call M.answer)
+        (stated_disk D.seen D.may_leave D.moment D.left_since) inputs.now
+        (length answers.new.items - length answers.old.items) start node.old.durable node.new.durable }
+    ensures front { take (length answers.old.items) answers.new.items ≡ answers.old.items }
+    ensures no_fewer { length answers.old.items ≤ length answers.new.items }
+    ensures open { OnOk result (node.new.durable.closed ≡ false) }
+    ensures ready { node.new.durable.closed ≡ false → IsSettled D.seen D.may_leave node.new.durable.disk }
+    ensures nothing { OnOk result (node.new.text.items ≡ []) }
 {
-    node.handle_all(alloc, inputs, answers)
+    let before = answers.len();
+    stage_all(node, alloc, inputs, answers);
+    match node.commit() {
+        Ok(()) => Ok(()),
+        Err(why) => {
+            answers.truncate(before);
+            Err(why)
+        }
+    }
+}
+
+/// Stages these in turn, up to the first that is refused, and puts their answers behind the others.
+fn stage_all<M: Machine, D: Disk>(
+    node: &mut Staged<M, D>,
+    alloc: Global,
+    inputs: &[M::Input],
+    answers: &mut Vec<M::Output>,
+)
+    requires { node.old.text.items ≡ [] }
+    ensures front { take (length answers.old.items) answers.new.items ≡ answers.old.items }
+    ensures no_fewer { length answers.old.items ≤ length answers.new.items }
+    ensures no_more { length answers.new.items ≤ length answers.old.items + length inputs.now }
+    ensures staged { AreStaged M.step M.text (M.state node.old.durable.machine)
+        (take (length answers.new.items - length answers.old.items) (calls M.call inputs.now))
+        (ended node.new.text.items) (M.state node.new.durable.machine) }
+    ensures disk { node.new.durable.disk ≡ node.old.durable.disk }
+    ensures closed { node.new.durable.closed ≡ node.old.durable.closed }
+{
+    laws::staged_calls_lead::<M>();
+    for input in inputs {
+        let Ok(()) = answers.reserve(1) else {
+            return;
+        };
+        let Ok(answer) = node.stage(alloc, input) else {
+            return;
+        };
+        answers.push_reserved(answer);
+    }
 }
 
 /// Takes an input, and then lets one line stand for the whole journal, if that is not refused. Who starts
@@ -267,31 +315,69 @@ pub fn taken_for_good(
     }
 }
 
-/// Serves the inputs, and then the process dies, and a crash leaves these bytes behind what was on the disk; `None`
+/// Serves the groups in turn, each with one sync, up to the first that is not taken whole. All that were answered are
+/// there from then on: no crash takes one back.
+pub fn serve<M: Machine, D: Disk>(
+    node: &mut Staged<M, D>,
+    alloc: Global,
+    groups: &[Vec<M::Input>],
+    answers: &mut Vec<M::Output>,
+)
+    requires settled { IsSettled D.seen D.may_leave node.old.durable.disk }
+    requires unclosed { node.old.durable.closed ≡ false }
+    requires none { node.old.text.items ≡ [] }
+    ensures kept { (start : M.State)
+        → state_after M.head M.named_state M.named M.step start (D.seen node.old.durable.disk) ≡ Some (M.state node.old.durable.machine)
+        → KeepsAnswered (stated M.head M.named_state M.named M.step M.state M.call M.answer)
+        (stated_disk D.seen D.may_leave D.moment D.left_since) groups.now
+        (length answers.new.items - length answers.old.items) start node.old.durable.machine node.new.durable.disk }
+    ensures no_fewer { length answers.old.items ≤ length answers.new.items }
+{
+    for group in groups {
+        let before = answers.len();
+        let Ok(()) = take_all(node, alloc, group, answers) else {
+            return;
+        };
+        if answers.len() - before < group.len() {
+            return;
+        }
+    }
+}
+
+/// Serves the groups, and then the process dies, and a crash leaves these bytes behind what was on the disk; `None`
 /// where no crash leaves them. Who starts again comes to where the first some of the inputs lead, all that were
 /// answered among them.
-pub fn serve_and_start_again<M: Machine, O: Outlet<MemoryDisk, Item = M::Output>>(
-    node: Durable<M, MemoryDisk>,
+pub fn serve_and_start_again<M: Machine>(
+    node: Staged<M, MemoryDisk>,
     alloc: Global,
-    inputs: &[M::Input],
-    outlet: &mut O,
+    groups: &[Vec<M::Input>],
+    answers: &mut Vec<M::Output>,
     torn: &[u8],
     anew: M,
 ) -> Result<Option<Durable<M, MemoryDisk>>, Unplayed<M::Refusal>>
-    requires settled { IsSettled ⟦<MemoryDisk as Disk>⟧.seen ⟦<MemoryDisk as Disk>⟧.may_leave node.disk }
-    requires unclosed { node.closed ≡ false }
+    requires settled { IsSettled ⟦<MemoryDisk as Disk>⟧.seen ⟦<MemoryDisk as Disk>⟧.may_leave node.durable.disk }
+    requires unclosed { node.durable.closed ≡ false }
+    requires none { node.text.items ≡ [] }
     requires leads { state_after M.head M.named_state M.named M.step (M.state anew)
-        (⟦<MemoryDisk as Disk>⟧.seen node.disk) ≡ Some (M.state node.machine) }
+        (⟦<MemoryDisk as Disk>⟧.seen node.durable.disk) ≡ Some (M.state node.durable.machine) }
     ensures held { IfOk result (λ some. IfSome some (λ again.
-        HoldsAnswered (stated M.head M.named_state M.named M.step M.state M.call M.answer)
-        anew node.machine inputs.now O.said outlet.old outlet.new (⟦<MemoryDisk as Disk>⟧.seen again.disk))) }
+        HoldsAnswered (stated M.head M.named_state M.named M.step M.state M.call M.answer) groups.now
+        (length answers.new.items - length answers.old.items) (M.state anew) node.durable.machine
+        (⟦<MemoryDisk as Disk>⟧.seen again.disk))) }
     ensures none { IfOk result (λ some. some ≡ None → torn.now ≢ []) }
 {
     let mut node = node;
-    let _all_or_some = serve_all(alloc, &mut node, inputs, outlet);
-    let Durable { disk, .. } = node;
-    match start_again(alloc, disk, torn, anew) {
-        Ok(again) => Ok(again),
+    serve(&mut node, alloc, groups, answers);
+    let Staged { durable, .. } = node;
+    let Durable { disk, .. } = durable;
+    let Ok(some) = disk.restart(torn) else {
+        return Err(Unplayed::Memory);
+    };
+    let Some(found) = some else {
+        return Ok(None);
+    };
+    match start_in_memory(alloc, anew, found) {
+        Ok(again) => Ok(Some(again)),
         Err(why) => Err(why),
     }
 }

@@ -2,7 +2,8 @@
 use Rattle.std.proofs.Common.{◌≡◌, ℕ, ◌+◌, ◌<◌, List, [], ◌∷◌, ◌++◌, length, take, drop, get_or, refl, sym, ◌∙◌, ap, append_assoc, take-append-drop}
 use Rattle.std.specs.Global.{Vec}
 use Rattle.std.proofs.lemmas.List.{append-nil, take_more, drop_more}
-use Rattle.la_journal.specs.Machine.{calls, group_calls}
+use Rattle.la_journal.specs.Machine.{calls}
+use Rattle.uses.specs.Journals.{group_calls}
 
 module _ {I C : Type 0} (call : I → C) where
   calls_append : (xs ys : List (Vec I)) → group_calls call (xs ++ ys) ≡ group_calls call xs ++ group_calls call ys
