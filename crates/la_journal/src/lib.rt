@@ -8,7 +8,7 @@
 //! `specs/` has the definitions: `Lines` and `Journal` (what a file says), `Machine` (where it leads),
 //! `Disk` (what a crash may leave), `Durable` (when a machine stands on its journal, and why a call
 //! is refused), `Note` and `Outcomes` (what is noted of a file's [`Contents`], and what a crash might have
-//! left of it), `Starts`, `Served` (what was given out, and what a crash keeps of it), `Lives` (processes one
+//! left of it), `Starts`, `Served` (what a crash keeps of calls that were answered), `Lives` (processes one
 //! after another), `Commits` (journals whose groups end in records), `Records` (these records, the head that a
 //! file begins with, and what behind the groups is damage), `Staging` (what is staged of a call); [`laws`] has what
 //! holds over a crash and a new start, [`record_laws`] what holds of groups with their records.

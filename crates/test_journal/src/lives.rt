@@ -257,7 +257,11 @@ fn a_life_in_groups(rt: HostRuntime) {
     let mut node = staged_over(alloc, node, 2);
     let mut answers = Vec::new(alloc);
     let served = two_groups(&rt, alloc, &mut node, &mut answers);
-    holds(&rt, "an end", served && follow(&answers, 0) && answers.len() == 3);
+    holds(
+        &rt,
+        "an end",
+        served && follow(&answers, 0) && answers.len() == 3,
+    );
     let disk = &node.durable.disk;
     holds(&rt, "the groups", has(alloc, disk, &[b"u\nu\n", b"u\n"]));
     let Ok(Some(left)) = disk.crash(b"") else {

@@ -14,5 +14,4 @@ mod Restarting
 mod Leasing
 mod Staging
 mod GroupCalls
-mod Nothing
 pub mod CarriedLines

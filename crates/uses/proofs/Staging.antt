@@ -75,17 +75,17 @@ module _ {S C : Type 0} (step : S → C → Option S) (text : C → List ℕ) (f
         some =
             λ n. ⊎_elim
             (λ lt. (
-            length (all ++ call ∷ []),
-            omega arith,
-            ap to (take_all n (so.kept ++ kept_unless it call) (omega (arith, lt, kept_short it call, length-append so.kept (kept_unless it call))))
-            ∙ both.0 ∙ sym taken
-            ∙ ap to (sym (take_all (length (all ++ call ∷ [])) (all ++ call ∷ []) (omega arith))),
+              length (all ++ call ∷ []),
+              omega arith,
+              ap to (take_all n (so.kept ++ kept_unless it call) (omega (arith, lt, kept_short it call, length-append so.kept (kept_unless it call))))
+                  ∙ both.0 ∙ sym taken
+                  ∙ ap to (sym (take_all (length (all ++ call ∷ [])) (all ++ call ∷ []) (omega arith))),
             ))
             (λ le. let m = so.some n in (
-            m.0,
-            omega (arith, m.1, length-append all (call ∷ [])),
-            ap to (take-append-le n so.kept (kept_unless it call) le) ∙ m.2
-            ∙ ap to (sym (take-append-le m.0 all (call ∷ []) m.1)),
+              m.0,
+              omega (arith, m.1, length-append all (call ∷ [])),
+              ap to (take-append-le n so.kept (kept_unless it call) le) ∙ m.2
+                  ∙ ap to (sym (take-append-le m.0 all (call ∷ []) m.1)),
             ))
             (cases_lt (length so.kept) n);
       }
@@ -117,6 +117,12 @@ either : (b : Bool) → (b ≡ true) ⊎ (b ≡ false)
 either true = inl refl
 either false = inr refl
 
+-- calls behind others
+pub led_behind : {S C : Type 0} (step : S → C → Option S) (done group : List C) (first between : S)
+    → steps step done first ≡ Some between → steps step (done ++ group) first ≡ steps step group between
+led_behind step done group first between led =
+    from_append step done group (Some first) ∙ ap (steps_from step group) led
+
 -- what was taken of one group, behind others
 module _ {S C : Type 0} (leads : List ℕ → Option S) (step : S → C → Option S) (all done group rest : List C)
     (split : all ≡ done ++ (group ++ rest)) (first between : S) (led : steps step done first ≡ Some between) where
@@ -147,9 +153,21 @@ module _ {S C : Type 0} (leads : List ℕ → Option S) (step : S → C → Opti
       × ((c : List ℕ) → left_since new t c → LeadsToAtLeast leads step (length done + many) all first c)
   keeps_more seen may_leave moment left_since prev new closed many state within leaves none then on_disk only now =
       ⊎_elim
-      (λ shut. (moment prev, leaves.later, λ c left. let some = leaves.each c left in
-      behind_others many c (some.0, omega (arith, none shut), some.1, some.2)))
-      (λ is_open. (moment new, omega arith, λ c left.
-      behind_others many c (many, omega arith, within,
-      ap leads (only is_open c (now c left)) ∙ on_disk is_open ∙ sym (then is_open))))
+      (λ shut. (
+        moment prev,
+        leaves.later,
+        λ c left. let some = leaves.each c left in
+            behind_others many c (some.0, omega (arith, none shut), some.1, some.2),
+      ))
+      (λ is_open. (
+        moment new,
+        omega arith,
+        λ c left.
+            behind_others many c (
+              many,
+              omega arith,
+              within,
+              ap leads (only is_open c (now c left)) ∙ on_disk is_open ∙ sym (then is_open),
+            ),
+      ))
       (either closed)

@@ -140,7 +140,9 @@ ghost use Rattle.uses.specs.Journals.{AddsLine, AreStaged, CrashKeepsSome, Takes
 ghost use Rattle.uses.specs.Journals.{stated, stated_disk};
 
 use la_disk::{FileDisk, FolderLock};
-use la_journal::{Disk, Durable, MemoryDisk, Refused, Staged, Uncommitted, Unplayed, laws, recover};
+use la_journal::{
+    Disk, Durable, MemoryDisk, Refused, Staged, Uncommitted, Unplayed, laws, recover,
+};
 
 /// A machine as its journal says, whose bytes were found, ready to be asked: all that was answered before is played,
 /// and is on the disk.

@@ -10,9 +10,18 @@ invariant-loop-group g l = record {
   unclosed : l.node.durable.closed ≡ false;
   settled : IsSettled g.D.Disk.seen g.D.Disk.may_leave l.node.durable.disk;
   none : l.node.text.items ≡ [];
-  many : length l.answers.items
+  no_fewer : length l.initial.answers.items ≤ length l.answers.items;
+  many : (start : g.M.Machine.State)
+      → state_after g.M.Machine.head g.M.Machine.named_state g.M.Machine.named g.M.Machine.step start (g.D.Disk.seen
+      l.initial.node.durable.disk)
+      ≡ Some (g.M.Machine.state l.initial.node.durable.machine)
+      → length l.answers.items
       ≡ length l.initial.answers.items + length (group_calls g.M.Machine.call (take l.group-index l.groups));
-  led : steps g.M.Machine.step (group_calls g.M.Machine.call (take l.group-index l.groups))
+  led : (start : g.M.Machine.State)
+      → state_after g.M.Machine.head g.M.Machine.named_state g.M.Machine.named g.M.Machine.step start (g.D.Disk.seen
+      l.initial.node.durable.disk)
+      ≡ Some (g.M.Machine.state l.initial.node.durable.machine)
+      → steps g.M.Machine.step (group_calls g.M.Machine.call (take l.group-index l.groups))
       (g.M.Machine.state l.initial.node.durable.machine)
       ≡ Some (g.M.Machine.state l.node.durable.machine);
   leads : (start : g.M.Machine.State)
