@@ -1,34 +1,17 @@
 -- Lines that are put behind a file at once.
-use Rattle.std.proofs.Common.{◌≡◌, ◌≢◌, inl, inr, ℕ, zero, suc, ◌-◌, ◌<◌, Bool, true, false, List, [], ◌∷◌, ◌++◌, length, take, drop, refl, sym, ◌∙◌, ap, subst, arith, append_assoc}
+use Rattle.std.proofs.Common.{◌≡◌, ◌≢◌, inl, inr, ℕ, ◌-◌, Bool, true, false, List, [], ◌∷◌, ◌++◌, refl, sym, ◌∙◌, ap, subst, arith, append_assoc}
 use Rattle.std.specs.Prelude.{⊤, not, ◌&&◌, ◌==◌}
-use Rattle.std.proofs.lemmas.List.{append-nil, take_all, length-drop}
+use Rattle.std.proofs.lemmas.List.{append-nil}
 use Rattle.std.proofs.lemmas.Bool.{false≢true}
 use Rattle.std.proofs.lemmas.Bool.Decides.{nat_tests}
 use Rattle.la_journal.specs.Lines.{file_of, IsClean}
 use Rattle.la_journal.specs.Commits.{is_record, HasNoEnd, AreWhole}
 use Rattle.la_journal.specs.Records.{ended, ended_from}
-use Rattle.la_journal.specs.Journal.{IsCallLine}
-use Rattle.la_journal.specs.Machine.{call_texts}
 use Rattle.la_journal.specs.Staging.{are_no_records}
 use Rattle.la_journal.proofs.TornRecords.{either}
 use Rattle.la_journal.proofs.RecordBytes.{no_ends-append}
 use Rattle.la_journal.proofs.Extents.{whole_line, whole_append}
 use Rattle.la_journal.proofs.Ended.{ended_end, ended_byte, one_ended}
-
--- the next item
-pub drop_next : (k : ℕ) (xs : List (List ℕ)) (x : List ℕ) (rest : List (List ℕ)) → drop k xs ≡ x ∷ rest
-    → (take (suc k) xs ≡ take k xs ++ x ∷ []) × (drop (suc k) xs ≡ rest)
-drop_next zero xs x rest is = (ap (take 1) is, ap (drop 1) is)
-drop_next (suc k) [] x rest is = absurd (omega (arith, ap length is))
-drop_next (suc k) (y ∷ xs) x rest is =
-    let more = drop_next k xs x rest is in
-    (ap (λ (l : List (List ℕ)). y ∷ l) more.0, more.1)
-
-pub drop_not_empty : (k : ℕ) (xs : List (List ℕ)) → k < length xs → drop k xs ≡ [] → ⊥
-drop_not_empty k xs within is = omega (arith, within, ap length is, length-drop k xs)
-
-pub tail_is : (m : ℕ) (bytes : List ℕ) → take (length bytes - m) (drop m bytes) ≡ drop m bytes
-tail_is m bytes = take_all (length bytes - m) (drop m bytes) (omega (arith, length-drop m bytes))
 
 pub file_of_then : (before : List (List ℕ)) (line rest : List ℕ)
     → file_of before ++ (line ++ 10 ∷ rest) ≡ file_of (before ++ line ∷ []) ++ rest
@@ -51,17 +34,6 @@ no_end_in (b ∷ line) clean = (differs b clean.1, no_end_in line clean.2)
 abbrev pub AreLines : List (List ℕ) → Type 0
 AreLines [] = ⊤
 AreLines (line ∷ rest) = HasNoEnd line × (is_record line ≡ false) × AreLines rest
-
-pub are_lines : {I C : Type 0} (call : I → C) (text : C → List ℕ) → ((c : C) → IsCallLine (text c)) → (inputs : List I)
-    → AreLines (call_texts call text inputs)
-are_lines call text clean [] = tt
-are_lines call text clean (input ∷ inputs) =
-    (no_end_in (text (call input)) (clean (call input)).0, (clean (call input)).2, are_lines call text clean inputs)
-
-pub take_lines : (n : ℕ) (ls : List (List ℕ)) → AreLines ls → AreLines (take n ls)
-take_lines zero ls are = tt
-take_lines (suc n) [] are = tt
-take_lines (suc n) (l ∷ ls) are = (are.0, are.1, take_lines n ls are.2)
 
 pub ended_of : (ls : List (List ℕ)) → AreLines ls → ended (file_of ls) ≡ ls
 ended_of [] are = refl

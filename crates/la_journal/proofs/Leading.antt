@@ -1,10 +1,10 @@
 -- Where a journal leads, as lines are put behind it.
-use Rattle.std.proofs.Common.{◌≡◌, ◌⊎◌, inl, inr, ℕ, zero, suc, ◌+◌, ◌≤◌, Bool, true, false, List, [], ◌∷◌, ◌++◌, Option, Some, None, map, length, take, refl, sym, ◌∙◌, ap, arith}
+use Rattle.std.proofs.Common.{◌≡◌, ◌⊎◌, inl, inr, ℕ, ◌+◌, ◌≤◌, Bool, true, false, List, [], ◌∷◌, ◌++◌, Option, Some, None, map, length, take, refl, sym, ◌∙◌, ap, arith}
 use Rattle.std.specs.Prelude.{⊤, if◌then◌else◌}
 use Rattle.std.proofs.Math.Seq.{take-append-add}
 use Rattle.std.proofs.lemmas.List.{take-append-le, length-append}
 use Rattle.la_journal.specs.Journal.{Journal, is_sound, lines, state_in, begun_by, journal, says, IsCallLine}
-use Rattle.la_journal.specs.Machine.{call_unless, step_named, plays_line, begins_with, lines_lead, state_after, calls, call_texts, steps_from, steps, LeadsToSome}
+use Rattle.la_journal.specs.Machine.{call_unless, step_named, plays_line, begins_with, lines_lead, state_after, calls, steps_from, steps, LeadsToSome}
 use Rattle.la_journal.proofs.Files.{Keeps}
 use Rattle.la_journal.proofs.StepsMore.{from_append, none_stays}
 
@@ -83,13 +83,6 @@ module _ {S C : Type 0} (head : S → List ℕ) (named_state : List ℕ → Opti
       group_leads start file c all n state le was (inl none) = (0, omega arith, leads_on start file c [] none ∙ was)
       group_leads start file c all n state le was (inr whole) =
           (n, le, leads_on start file c (take n all) whole ∙ ap (steps_from step (take n all)) was)
-
-pub texts_are : {I C : Type 0} (call : I → C) (text : C → List ℕ) (n : ℕ) (inputs : List I)
-    → take n (call_texts call text inputs) ≡ map text (take n (calls call inputs))
-texts_are call text zero inputs = refl
-texts_are call text (suc n) [] = refl
-texts_are call text (suc n) (input ∷ inputs) =
-    ap (λ (ls : List (List ℕ)). text (call input) ∷ ls) (texts_are call text n inputs)
 
 -- some of the first calls, or all of them and some of the later ones, are some of all
 module _ {S C : Type 0} (leads : List ℕ → Option S) (step : S → C → Option S) (taken later : List C) (first next : S)

@@ -1,7 +1,4 @@
 mod Goes
-mod Given
-mod Parts
-mod GroupCalls
 mod ManyLives
 mod Recorded
 mod TornRecords

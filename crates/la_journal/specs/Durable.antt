@@ -55,20 +55,6 @@ IsDurableRefusal lacks_memory before now faults_before faults stepped NotKept =
     (before ≡ false) × (now ≡ true) × (faults_before < faults)
 IsDurableRefusal lacks_memory before now faults_before faults stepped Closed = (before ≡ true) × (now ≡ true)
 
--- Of inputs the first some were taken: the machine refuses the one behind these, and else none was taken.
--- `stepped` is what so many calls come to.
-abbrev pub IsStop : {S R : Type 0} (lacks_memory : R → Type 0) → (before now : Bool) → (faults_before faults : ℕ)
-    → (many taken : ℕ) → (stepped : ℕ → Option S) → RefusedOf R → Type 0
-IsStop lacks_memory before now faults_before faults many taken stepped (Machine refusal) =
-    (taken < many) × IsDurableRefusal lacks_memory before now faults_before faults (stepped (taken + 1)) (Machine
-    refusal)
-IsStop lacks_memory before now faults_before faults many taken stepped NoMemory =
-    (taken ≡ 0) × IsDurableRefusal lacks_memory before now faults_before faults (stepped 0) NoMemory
-IsStop lacks_memory before now faults_before faults many taken stepped NotKept =
-    (taken ≡ 0) × IsDurableRefusal lacks_memory before now faults_before faults (stepped 0) NotKept
-IsStop lacks_memory before now faults_before faults many taken stepped Closed =
-    (taken ≡ 0) × IsDurableRefusal lacks_memory before now faults_before faults (stepped 0) Closed
-
 -- A journal is not compacted for a cause, and is closed where the disk failed or it was closed before. `writes` says
 -- whether a text of the machine's state is written.
 abbrev pub IsNotCompacted : (before now : Bool) → (faults_before faults : ℕ) → (writes : Bool) → Uncompacted → Type 0

@@ -1,6 +1,5 @@
 -- What a machine comes to by calls, and by what a journal says.
-use Rattle.std.specs.Prelude.{◌≡◌, if◌then◌else◌, List, [], ◌∷◌, ◌++◌, ℕ, ◌≤◌, Bool, true, false, Option, Some, None, map, length, take, drop}
-use Rattle.std.specs.Global.{Vec}
+use Rattle.std.specs.Prelude.{◌≡◌, if◌then◌else◌, List, [], ◌∷◌, ℕ, ◌≤◌, Bool, true, false, Option, Some, None, map, length, take}
 use Rattle.la_journal.specs.Journal.{Journal, state_in, says, is_sound}
 
 -- the input that was read is the one that the line names
@@ -8,22 +7,9 @@ abbrev pub IsNamed : {I C : Type 0} (call : I → C) → Option C → Option I �
 IsNamed call named (Some input) = named ≡ Some (call input)
 IsNamed call named None = named ≡ None
 
--- the lines of these inputs
-abbrev pub call_texts : {I C : Type 0} (call : I → C) (text : C → List ℕ) → List I → List (List ℕ)
-call_texts call text inputs = map (λ input. text (call input)) inputs
-
 -- the calls of these inputs
 abbrev pub calls : {I C : Type 0} (call : I → C) → List I → List C
 calls call inputs = map call inputs
-
--- the calls of all these groups, in their order
-abbrev pub group_calls : {I C : Type 0} (call : I → C) → List (Vec I) → List C
-group_calls call [] = []
-group_calls call (group ∷ rest) = calls call group.items ++ group_calls call rest
-
--- what stands behind what was there
-abbrev pub newer : {X : Type 0} (old new : List X) → List X
-newer old new = drop (length old) new
 
 -- one step more, where there was a state
 abbrev pub goes_on : {S C : Type 0} (step : S → C → Option S) → Option S → C → Option S
@@ -37,16 +23,6 @@ steps_from step (call ∷ rest) state = steps_from step rest (goes_on step state
 
 abbrev pub steps : {S C : Type 0} (step : S → C → Option S) → List C → S → Option S
 steps step calls state = steps_from step calls (Some state)
-
--- what these calls answer, each by the state before it
-abbrev pub replies_from : {S C A : Type 0} (step : S → C → Option S) (answers : S → C → A) → List C → Option S → List A
-replies_from step answers [] state = []
-replies_from step answers (call ∷ rest) None = []
-replies_from step answers (call ∷ rest) (Some state) =
-    answers state call ∷ replies_from step answers rest (step state call)
-
-abbrev pub replies : {S C A : Type 0} (step : S → C → Option S) (answers : S → C → A) → List C → S → List A
-replies step answers calls state = replies_from step answers calls (Some state)
 
 -- the call that a line says: none where it is a state's
 abbrev pub call_unless : {C : Type 0} → Option (List ℕ) → Option C → Option C

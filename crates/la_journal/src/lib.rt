@@ -8,7 +8,7 @@
 //! `specs/` has the definitions: `Lines` and `Journal` (what a file says), `Machine` (where it leads),
 //! `Disk` (what a crash may leave), `Durable` (when a machine stands on its journal, and why a call
 //! is refused), `Note` and `Outcomes` (what is noted of a file's [`Contents`], and what a crash might have
-//! left of it), `Starts`, `Served` (what was given out, and what a crash keeps of it), `Lives` (processes one
+//! left of it), `Starts`, `Served` (what a crash keeps of calls that were answered), `Lives` (processes one
 //! after another), `Commits` (journals whose groups end in records), `Records` (these records, the head that a
 //! file begins with, and what behind the groups is damage), `Staging` (what is staged of a call); [`laws`] has what
 //! holds over a crash and a new start, [`record_laws`] what holds of groups with their records.
@@ -20,21 +20,17 @@ mod damage;
 mod disk;
 mod durable;
 mod given_out;
-mod group;
 mod grouped;
 mod happened;
 mod holding;
 pub mod laws;
 mod machine;
 mod memory_disk;
-mod outlet;
 mod record;
 pub mod record_laws;
 mod records;
 mod recovery;
-mod serving;
 mod staging;
-mod starts;
 
 pub use compaction::Uncompacted;
 pub use contents::Contents;
@@ -45,10 +41,7 @@ pub use given_out::GivenOut;
 pub use grouped::{Group, Head, head_of, next_group};
 pub use machine::{Machine, Snapshot};
 pub use memory_disk::MemoryDisk;
-pub use outlet::{Outlet, OutletFault, Unserved};
 pub use record::Record;
 pub use records::{head_line, record_line, text_of_head};
 pub use recovery::{Unplayed, new_journal, recover};
-pub use serving::{serve_all, serve_groups};
 pub use staging::{Staged, Uncommitted, Unstaged};
-pub use starts::start_again;
