@@ -6,7 +6,7 @@ use la_io::{SourceFault, WriteFailed};
 use thiserror::Error;
 
 /// Why a call ends without an answer. It is shown as the program tells it.
-#[derive(Clone, Copy, Debug, PartialEq, Eq, Error)]
+#[derive(Clone, Copy, Debug, Error)]
 pub enum CallFault {
     /// A read failed, or was interrupted, or what is to be read was not opened.
     #[error("ReadFault")]

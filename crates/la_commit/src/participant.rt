@@ -8,7 +8,7 @@ use la_set::UpdateSet;
 use std::marker::Model;
 
 /// A participant that has proposed nothing yet.
-#[derive(Clone, Copy, Debug, PartialEq, Eq)]
+#[derive(Clone, Copy)]
 pub struct Fresh {
     participant: u8,
 }
@@ -24,7 +24,7 @@ impl Model for Fresh {
 }
 
 /// A participant that has proposed, and learns a set of the first agreement next.
-#[derive(Clone, Copy, Debug, PartialEq, Eq)]
+#[derive(Clone, Copy)]
 pub struct First {
     participant: u8,
     value: u64,
@@ -41,7 +41,7 @@ impl Model for First {
 }
 
 /// A participant that has learnt a set of the first agreement, and learns one of the second next.
-#[derive(Clone, Copy, Debug, PartialEq, Eq)]
+#[derive(Clone, Copy)]
 pub struct Second {
     participant: u8,
     vote: Vote,
@@ -58,7 +58,7 @@ impl Model for Second {
 }
 
 /// A participant that has come to its outcome.
-#[derive(Clone, Copy, Debug, PartialEq, Eq)]
+#[derive(Clone, Copy)]
 pub struct Done {
     reached: Outcome,
 }

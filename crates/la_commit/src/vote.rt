@@ -4,7 +4,7 @@ ghost use Rattle.la_commit.specs.Votes.{vote_of, op_of};
 use la_set::Op;
 
 /// A participant's vote: its value, and whether it saw that value alone.
-#[derive(Clone, Copy, Debug, PartialEq, Eq)]
+#[derive(Clone, Copy, PartialEq, Eq)]
 pub struct Vote {
     /// The value that is voted for.
     pub value: u64,

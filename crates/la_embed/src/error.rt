@@ -84,7 +84,7 @@ impl From<AllocError> for Unrecovered {
 }
 
 /// Why a submission under a number was not done. The host is then as before.
-#[derive(Clone, Copy, Debug, PartialEq, Eq, Error)]
+#[derive(Clone, Copy, Debug, Error)]
 pub enum NumberError {
     /// Another submission has this number.
     #[error("another submission has this number")]

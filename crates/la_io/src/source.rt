@@ -23,7 +23,7 @@ pub fn limit_of(line: &[u8]) -> usize
 }
 
 /// Why no line was taken.
-#[derive(Clone, Copy, Debug, PartialEq, Eq, Error)]
+#[derive(Clone, Copy, Debug, Error)]
 pub enum SourceFault {
     /// A read failed, or was interrupted.
     #[error("ReadFault")]
@@ -35,7 +35,7 @@ pub enum SourceFault {
 }
 
 /// What stands next on an input.
-#[derive(Clone, Copy, PartialEq, Eq)]
+#[derive(Clone, Copy)]
 pub enum Next {
     /// A line: [`Source::line`].
     Line,

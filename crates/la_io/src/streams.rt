@@ -27,7 +27,7 @@ pub const LIMIT: usize = 16_777_216;
 const CHUNK: usize = 8192;
 
 /// Why not all of an input was read.
-#[derive(Clone, Copy, Debug, PartialEq, Eq, Error)]
+#[derive(Clone, Copy, Debug, Error)]
 pub enum InputFault {
     /// A read failed.
     #[error("ReadFault")]
@@ -51,7 +51,7 @@ impl From<AllocError> for InputFault {
 }
 
 /// The writer failed, or took no byte.
-#[derive(Clone, Copy, Debug, PartialEq, Eq, Error)]
+#[derive(Clone, Copy, Debug, Error)]
 #[error("WriteFault")]
 pub struct WriteFailed;
 

@@ -26,7 +26,7 @@ pub struct Letter {
 
 /// How far a replica is, told to another that told it nothing new. It is no message of the protocol: nothing but
 /// what is known changes by it.
-#[derive(Clone, Copy, Debug, PartialEq, Eq)]
+#[derive(Clone, Copy)]
 pub struct Standing {
     /// How many replicas the group has.
     pub replicas: u8,

@@ -1,5 +1,5 @@
 /// What kind of object one is. Each kind has operations of its own; all others change nothing.
-#[derive(Clone, Copy, Debug, PartialEq, Eq)]
+#[derive(Clone, Copy, PartialEq, Eq)]
 pub enum Kind {
     /// Absorbs `Inc` and `Dec`, and answers their total.
     Counter,

@@ -1,7 +1,7 @@
 use la_set::Sequence;
 
 /// What an object is asked.
-#[derive(Clone, Copy, Debug, PartialEq, Eq)]
+#[derive(Clone, Copy)]
 pub enum Query {
     /// A counter's increments less its decrements.
     Total,

@@ -6,7 +6,7 @@ use la_set::Counts;
 
 /// How far a replica is in instance 0, by counts. While it keeps its state they only grow: so what it had some
 /// time ago it still has.
-#[derive(Clone, Copy, Debug, PartialEq, Eq)]
+#[derive(Clone, Copy)]
 pub struct Progress {
     /// How many updates of each replica its acceptor has accepted.
     pub accepted: Counts,

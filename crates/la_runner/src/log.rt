@@ -35,7 +35,7 @@ pub struct Log<B: Replicated> {
 pub type Logs<B> = Sequence<Log<B>>;
 
 /// Why nothing comes back of a run.
-#[derive(Clone, Copy, Debug, PartialEq, Eq, Error)]
+#[derive(Clone, Copy, Debug, Error)]
 pub enum RunError {
     /// There are not as many members, shelves and jobs as the group has replicas, or a shelf has
     /// absorbed something.

@@ -6,7 +6,7 @@ use la_io::{SourceFault, WriteFailed};
 use thiserror::Error;
 
 /// Why a node ended before its input did. It is shown as the program tells it.
-#[derive(Clone, Copy, Debug, PartialEq, Eq, Error)]
+#[derive(Clone, Copy, Debug, Error)]
 pub enum NodeFault {
     /// A read failed, or was interrupted.
     #[error("ReadFault")]
@@ -46,7 +46,7 @@ pub enum NodeFault {
 }
 
 /// What a journal's head says of a node, in its order.
-#[derive(Clone, Copy, Debug, PartialEq, Eq, Error)]
+#[derive(Clone, Copy, Debug, Error)]
 pub enum NodeOption {
     /// The journal's form, and its version.
     #[error("version")]

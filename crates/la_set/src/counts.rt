@@ -7,7 +7,7 @@ use crate::REPLICAS;
 /// [`UpdateSet::counts`], or of eight numbers, as a transport has them.
 ///
 /// [`UpdateSet::counts`]: crate::UpdateSet::counts
-#[derive(Clone, Copy, Debug, PartialEq, Eq)]
+#[derive(Clone, Copy, PartialEq, Eq)]
 pub struct Counts {
     pub(crate) of: [u32; 8],
 }

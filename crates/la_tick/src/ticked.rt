@@ -21,7 +21,7 @@ use thiserror::Error;
 const SPARE: usize = 2;
 
 /// Why no ticks can come.
-#[derive(Clone, Copy, Debug, PartialEq, Eq, Error)]
+#[derive(Clone, Copy, Debug, Error)]
 pub enum TickFault {
     /// No thread could be started.
     #[error("NoThread")]

@@ -14,7 +14,7 @@ use la_shelf::{Absorbs, Refusal};
 use std::alloc::{AllocError, Global};
 
 /// What is done to a [`Flag`].
-#[derive(Clone, Copy, Debug, PartialEq, Eq)]
+#[derive(Clone, Copy, PartialEq, Eq)]
 pub enum FlagOp {
     /// Turns it on.
     Enable,
@@ -89,7 +89,7 @@ pub struct Flag {
 }
 
 /// What a flag keeps of its updates.
-#[derive(Clone, Copy, Debug, PartialEq, Eq)]
+#[derive(Clone, Copy)]
 pub struct FlagState {
     /// Of each replica the number of its last enabling.
     pub enabled: Counts,

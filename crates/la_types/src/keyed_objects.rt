@@ -15,7 +15,7 @@ use std::alloc::{AllocError, Global};
 use thiserror::Error;
 
 /// Why an operation was not put under a key.
-#[derive(Clone, Copy, Debug, PartialEq, Eq, Error)]
+#[derive(Clone, Copy, Debug, Error)]
 pub enum UnderError {
     /// It is no operation of one's own, so that it has no bytes.
     #[error("not an operation of one's own")]

@@ -28,7 +28,7 @@ pub(crate) const TAKE: &[u8] = b"take";
 const AT: &[u8] = b"at";
 
 /// What a client asks of a node that no call says.
-#[derive(Clone, Copy, Debug, PartialEq, Eq)]
+#[derive(Clone, Copy, PartialEq, Eq)]
 pub enum Question {
     /// Which updates put this element that an object still has: `ask R O tags X`.
     Tags {
@@ -61,7 +61,7 @@ pub enum Question {
 }
 
 /// A submission that takes an element out by what is seen: `submit R O take X`, or `submit R.K O take X`.
-#[derive(Clone, Copy, Debug, PartialEq, Eq)]
+#[derive(Clone, Copy, PartialEq, Eq)]
 pub struct Take {
     /// The number of the replica, from 0.
     pub replica: u8,

@@ -13,7 +13,7 @@ use la_replica::Progress;
 use std::alloc::AllocError;
 
 /// How many messages of each kind.
-#[derive(Clone, Copy, Debug, PartialEq, Eq)]
+#[derive(Clone, Copy)]
 pub struct Kinds {
     /// Offers of sets.
     pub offers: u64,
@@ -43,7 +43,7 @@ impl Kinds {
 }
 
 /// What a process counted since it started.
-#[derive(Clone, Copy, Debug, PartialEq, Eq)]
+#[derive(Clone, Copy)]
 pub struct Tally {
     /// The messages that came, also those for other replicas.
     pub received: Kinds,

@@ -18,7 +18,7 @@ use la_script::{number, tag_of, words_of};
 use std::alloc::{AllocError, Global};
 
 /// What is to stand at a place of a line that a client writes.
-#[derive(Clone, Copy, Debug, PartialEq, Eq)]
+#[derive(Clone, Copy)]
 pub enum Wanted {
     /// What the line calls for: its first word.
     Call,
