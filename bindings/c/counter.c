@@ -17,6 +17,9 @@
 
 enum { CAP = 1000000, VISITS = 1, PRIVATE = 0600 };
 
+/* None are given, so each replica has one vote. No pointer that the library is given may be null, even here. */
+static const uint16_t no_votes[1] = {0};
+
 struct bytes {
     uint8_t *at;
     size_t len;
@@ -70,7 +73,9 @@ static struct bytes record_of(lattice_node *node) {
     return record;
 }
 
-/* Takes the folder, and makes the node of what its journal has. A new file, on the disk, takes the journal's place. */
+/* Takes the folder, and makes the node of what its journal has. What was read there need not be on the disk yet, if the
+ * process that wrote it was killed. So a new file, on the disk, takes the journal's place before the node tells
+ * anything. */
 static int start(const char *folder, lattice_node *node) {
     size_t kept, line = 0;
     if (chdir(folder) != 0) stop(folder);
@@ -78,7 +83,7 @@ static int start(const char *folder, lattice_node *node) {
     if (lock < 0 || flock(lock, LOCK_EX | LOCK_NB) != 0) stop("lock");
     struct bytes journal = found();
     errno = 0;
-    if (lattice_node_recover(1, 0, 0, CAP, NULL, 0, journal.at, journal.len, &kept, &line, node) != LATTICE_OK)
+    if (lattice_node_recover(1, 0, 0, CAP, no_votes, 0, journal.at, journal.len, &kept, &line, node) != LATTICE_OK)
         stop("journal");
     struct bytes first = record_of(node);
     unlink("journal.new");
