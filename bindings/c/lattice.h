@@ -11,9 +11,10 @@
  *   thread's start or a join orders the calls. Handles share nothing, and calls on different ones
  *   may run at the same time.
  *
- * - No pointer is null, even where its length is 0. Behind it is as much as its type and its length
- *   say, which may be written where a result goes there, and which overlaps nothing else that the
- *   call is given.
+ * - No pointer is null, even where its length is 0: where no votes are given, or no bytes, the
+ *   address of anything goes there. Behind a pointer is as much as its type and its length say,
+ *   which may be written where a result goes there, and which overlaps nothing else that the call
+ *   is given.
  *
  * - The program's malloc, realloc and free are one allocator. No call is made from a signal
  *   handler, nor in a process that was forked after the node was made: the node would be there
@@ -29,9 +30,13 @@
  *   journal was lost, or went back to an earlier state.
  *
  * - Of a node that lattice_node_recover made, the program's file has the bytes that were found, up
- *   to where they were to be kept, and behind them each record that lattice_next_record handed
- *   over, in their order: on the disk, before lattice_synced is called. One process at a time has
- *   it.
+ *   to where they were to be kept, and they are on the disk before the node is asked for anything
+ *   but its next record. If the process that wrote them was killed, they can be read though they
+ *   are not on the disk yet, and the node takes them for kept: it may tell at once what they lead
+ *   to. So sync the file first, or put a new one in its place, as counter.c does.
+ *
+ * - Behind those bytes the file has each record that lattice_next_record handed over, in their
+ *   order, on the disk before lattice_synced is called. One process at a time has the file.
  */
 #ifndef LATTICE_H
 #define LATTICE_H
