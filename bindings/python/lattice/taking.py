@@ -68,7 +68,7 @@ class Taking(ABC, Generic[Number]):
 
     def remove(self, object_number: int, element: int) -> Number:
         """Takes an element out of a set, as far as this node's view has it: what another node puts in at the same
-        time stays.
+        time stays, and so does a put of this node's own that the view lacks.
 
         `NoObjectError` comes where there is no such object, `TooManyTagsError` where the view has over 64 puts of the
         element that stand.

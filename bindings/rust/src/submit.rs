@@ -69,7 +69,7 @@ pub trait Submit: Sealed {
     }
 
     /// Takes an element out of a set, as far as this node's view has it: what another node puts in
-    /// at the same time stays.
+    /// at the same time stays, and so does a put of this node's own that the view lacks.
     ///
     /// [`Error::NoObject`] comes where there is no such object, [`Error::TooManyTags`] where the view
     /// has over 64 puts of the element that stand.
