@@ -215,6 +215,11 @@ uint8_t lattice_node_new(uint8_t replicas, uint8_t own, uint8_t commits, uint32_
  * cut off, on the disk, before anything is put behind. Objects are added anew, and all updates are
  * handed over anew.
  *
+ * What was found counts as kept, and the node may tell at once what it leads to. But what can be
+ * read from a file need not be on the disk yet, if the process that wrote it was killed before its
+ * sync. So sync the file first, or put a new one in its place, before the node is asked for
+ * anything but its next record.
+ *
  * In this order: as `lattice_node_new` ends, and LATTICE_NO_JOURNAL, LATTICE_OTHER_JOURNAL and
  * LATTICE_DAMAGED, and then the line is told, from 1. Then the place is as before.
  */
@@ -252,7 +257,8 @@ uint8_t lattice_raise(lattice_node *handle, uint16_t object, uint64_t to, uint32
 uint8_t lattice_put(lattice_node *handle, uint16_t object, uint64_t element, uint32_t *number);
 
 /* Submits that an element is taken out of an observed-remove set, as far as the view has it: what
- * was put in at the same time elsewhere stays.
+ * was put in at the same time elsewhere stays, and so does a put of this node's own that the view
+ * lacks.
  *
  * LATTICE_NO_OBJECT comes where there is no such object, LATTICE_TOO_MANY_TAGS where over 64 puts
  * of the element are seen; else it is as of each call that submits.

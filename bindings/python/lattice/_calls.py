@@ -179,6 +179,11 @@ CALLS = [
     # to be cut off, on the disk, before anything is put behind. Objects are added anew, and all
     # updates are handed over anew.
     #
+    # What was found counts as kept, and the node may tell at once what it leads to. But what can be
+    # read from a file need not be on the disk yet, if the process that wrote it was killed before
+    # its sync. So sync the file first, or put a new one in its place, before the node is asked for
+    # anything but its next record.
+    #
     # In this order: as `lattice_node_new` ends, and NO_JOURNAL, OTHER_JOURNAL and DAMAGED, and then
     # the line is told, from 1. Then the place is as before.
     ("lattice_node_recover", c_uint8, [
@@ -215,7 +220,8 @@ CALLS = [
     # Submits that an element is put into an observed-remove set.
     ("lattice_put", c_uint8, [POINTER(Node), c_uint16, c_uint64, POINTER(c_uint32)]),
     # Submits that an element is taken out of an observed-remove set, as far as the view has it:
-    # what was put in at the same time elsewhere stays.
+    # what was put in at the same time elsewhere stays, and so does a put of this node's own that
+    # the view lacks.
     #
     # NO_OBJECT comes where there is no such object, TOO_MANY_TAGS where over 64 puts of the element
     # are seen; else it is as of each call that submits.

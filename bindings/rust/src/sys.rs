@@ -198,6 +198,11 @@ unsafe extern "C" {
     /// which is to be cut off, on the disk, before anything is put behind. Objects are added anew,
     /// and all updates are handed over anew.
     ///
+    /// What was found counts as kept, and the node may tell at once what it leads to. But what can
+    /// be read from a file need not be on the disk yet, if the process that wrote it was killed
+    /// before its sync. So sync the file first, or put a new one in its place, before the node is
+    /// asked for anything but its next record.
+    ///
     /// In this order: as `lattice_node_new` ends, and [`NO_JOURNAL`], [`OTHER_JOURNAL`] and
     /// [`DAMAGED`], and then the line is told, from 1. Then the place is as before.
     pub fn lattice_node_recover(
@@ -247,7 +252,8 @@ unsafe extern "C" {
     ) -> u8;
 
     /// Submits that an element is taken out of an observed-remove set, as far as the view has it:
-    /// what was put in at the same time elsewhere stays.
+    /// what was put in at the same time elsewhere stays, and so does a put of this node's own that
+    /// the view lacks.
     ///
     /// [`NO_OBJECT`] comes where there is no such object, [`TOO_MANY_TAGS`] where over 64 puts of
     /// the element are seen; else it is as of each call that submits.

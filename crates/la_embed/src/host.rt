@@ -101,6 +101,10 @@ impl<B: Replicated> Host<B> {
     /// a crash left the rest of a record that was not told to be on the disk. No byte at all is a new journal. Objects,
     /// what was heard and what was handed on are not kept. Linear in the bytes, which are let go.
     ///
+    /// What was found counts as kept: over a whole journal the host may tell at once what that leads to. But what a
+    /// program reads from its file need not be on the disk yet, if the process that wrote it was killed before its
+    /// sync. So the program syncs the file before it asks the host anything, or puts a new one in its place.
+    ///
     /// From then on nothing may be told before it is on the disk: the program puts what [`Host::make_record`] makes
     /// behind the file's bytes, has it on the disk, and says so by [`Host::synced`]. The first record of a new journal
     /// is to be put in place at once, as by renaming a file that has it.

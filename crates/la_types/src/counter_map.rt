@@ -23,7 +23,8 @@ pub enum CounterOp {
     /// Adds an amount to the counter under a key.
     Add { amount: u32, key: Bytes },
     /// Takes the counter under a key back as far as its maker had seen what was added: `seen` is
-    /// `view.counts()` of the view that he acted by.
+    /// `view.counts()` of the view that he acted by. That view has an add of his own only once this
+    /// is learnt. One that it lacks stays in the sum: wait until the view has it.
     Reset { seen: Counts, key: Bytes },
 }
 
@@ -47,7 +48,8 @@ pub fn add_op(alloc: Global, amount: u32, key: &[u8]) -> Result<Op, OwnError>
 }
 
 /// The operation that takes the counter under a key back as far as its maker had seen what was
-/// added: `seen` is `view.counts()` of the view that he acted by. What he had not seen stays.
+/// added: `seen` is `view.counts()` of the view that he acted by. What he had not seen stays, also
+/// an add of his own that the view lacks, since it is not learnt yet: wait until the view has it.
 ///
 /// `TooLong` comes exactly where the key is above [`COUNTER_KEY_BYTES`] bytes.
 pub fn reset_op(alloc: Global, seen: Counts, key: &[u8]) -> Result<Op, OwnError>
@@ -271,7 +273,7 @@ fn copy_all(alloc: Global, all: &[KeptCount]) -> Result<Vec<KeptCount>, AllocErr
 
 /// A map from keys, which are bytes, to counters. A counter is the sum of what was added under its
 /// key that no reset of the key had seen: so an add wins over a reset that was made at the same
-/// time.
+/// time. It also wins over one that its own replica made before its view had the add.
 ///
 /// It has no kinds; it is asked by a key, in place, and answers the counter, or 0 where nothing
 /// was added. It keeps every add and reset with its key, an answer costs in proportion to them,

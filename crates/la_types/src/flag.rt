@@ -19,7 +19,8 @@ pub enum FlagOp {
     /// Turns it on.
     Enable,
     /// Turns it off as far as its maker had seen it turned on: `seen` is `view.counts()` of the
-    /// view that he acted by.
+    /// view that he acted by. That view has an enabling of his own only once this is learnt. One
+    /// that it lacks stays on: wait until the view has it.
     Disable { seen: Counts },
 }
 
@@ -79,7 +80,8 @@ fn read(bytes: &[u8]) -> Option<FlagOp>
 }
 
 /// A flag that is on where some enabling was not seen by any disabling: so an enabling wins over a
-/// disabling that was made at the same time.
+/// disabling that was made at the same time. It also wins over one that its own replica made before
+/// its view had the enabling: who turns a flag on, and off at once, leaves it on.
 ///
 /// It is 64 bytes, whatever the number of updates. It has no kinds, one question, `()`, and its
 /// answer is whether it is on; nothing of it takes memory, and it is never full.

@@ -80,6 +80,10 @@ pub extern "C" fn lattice_node_new(
 /// stands what a crash left of a record, which is to be cut off, on the disk, before anything is put behind. Objects are
 /// added anew, and all updates are handed over anew.
 ///
+/// What was found counts as kept, and the node may tell at once what it leads to. But what can be read from a file need
+/// not be on the disk yet, if the process that wrote it was killed before its sync. So sync the file first, or put a
+/// new one in its place, before the node is asked for anything but its next record.
+///
 /// In this order: as `lattice_node_new` ends, and `NO_JOURNAL`, `OTHER_JOURNAL` and `DAMAGED`, and then the line is told,
 /// from 1. Then the place is as before.
 #[unsafe(no_mangle)]

@@ -165,7 +165,7 @@ fn observed(handle: &mut Handle, object: u16, element: u64) -> Result<Tags, Shel
 }
 
 /// Submits that an element is taken out of an observed-remove set, as far as the view has it: what was put in at the
-/// same time elsewhere stays.
+/// same time elsewhere stays, and so does a put of this node's own that the view lacks.
 ///
 /// `NO_OBJECT` comes where there is no such object, `TOO_MANY_TAGS` where over 64 puts of the element are seen; else it
 /// is as of each call that submits.
