@@ -29,6 +29,7 @@ class Telling:
 def build(tool: str, crate: str, path: Path, plain: bool) -> bool:
     """Compiles a crate's program to a path, with checks of memory or plain, and answers whether it could."""
     path.parent.mkdir(parents=True, exist_ok=True)
+    unproved.end_with_this()
     with tempfile.TemporaryDirectory() as scratch:
         root = Path(scratch)
         made = workspace.make(root, [crate])
