@@ -78,8 +78,7 @@ restart_on calls (c ∷ cs) hosts letters learnt r before kept are at sent led =
     } in
     let does : IsHostStep before before.links call given next = record {
       does = says.3;
-      mail = inr refl;
-      links = refl;
+      mail = inr (refl, refl);
       shelf = refl;
       handed = refl;
       journal = record { line = c.line; says = λ some. says.2; is = refl };

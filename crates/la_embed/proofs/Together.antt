@@ -1,7 +1,7 @@
 -- Hosts stay together.
 use Rattle.std.proofs.Common.{◌≡◌, inl, inr, ℕ, zero, suc, ◌+◌, Bool, true, false, List, [], ◌∷◌, ◌++◌, length, map}
 use Rattle.std.proofs.Common.{drop, slice_get, slice_set, Contains, Option, Some, None, Ok, Err, Result, cond, refl}
-use Rattle.std.proofs.Common.{filter, sym, ap, subst, ◌∙◌, ◌==◌, ◌&&◌, append-nil, arith}
+use Rattle.std.proofs.Common.{sym, ap, subst, ◌∙◌, ◌==◌, ◌&&◌, append-nil, arith}
 use Rattle.std.specs.List.{range_with_len}
 use Rattle.std.proofs.lemmas.Bool.{eqb-true, false≢true}
 use Rattle.std.proofs.lemmas.List.Elements.{Contains-append_left, Contains-append_right, Contains-append_cases}
@@ -10,11 +10,15 @@ use Rattle.la_set.proofs.lemmas.Filters.{Contains-cons_cases, Contains-first, Co
 use Rattle.la_proposer.specs.Majority.{votes_of}
 use Rattle.la_replica.specs.declared.message.Message as code
 use Rattle.la_replica.specs.Messages.{group}
+use Rattle.la_replica.specs.Progress.{progress_of}
 use Rattle.la_replica.specs.ReplicaState.{ReplicaState, start}
 use Rattle.la_node.specs.declared.link.Letter.{Letter}
 use Rattle.la_node.specs.declared.link.Links.{Links}
 use Rattle.la_node.specs.declared.link.Standing.{Standing}
-use Rattle.la_node.specs.Links.{letters_of, is_owed, standing_of, wants_standing}
+use Rattle.la_node.specs.declared.link.Sending.{Sending}
+use Rattle.la_node.specs.declared.link.Sending.TheVariants as sending
+use Rattle.la_node.specs.Links.{letters_of, letters_sent, is_chosen, is_lacked, answered_with, asked_with}
+use Rattle.la_node.specs.Links.{standing_of, wants_standing}
 use Rattle.la_node.specs.Steps.{Given}
 use Rattle.la_wire.specs.declared.error.LineFault.{LineFault}
 use Rattle.la_wire.specs.declared.error.LineFault.TheVariants.{TooLong}
@@ -27,11 +31,11 @@ use Rattle.la_world.specs.Calls.{replica_states_at_start}
 use Rattle.la_world.specs.LiveGroups.{LearntSet}
 use Rattle.la_world.specs.Together.{AreTogether, NewReplicasAreTogether, CallsKeepTogether, RepeatsKeepTogether}
 use Rattle.la_world.specs.Together.{ViewsTogetherAreComparable, CommitsTogetherAgree}
-use Rattle.la_world.proofs.lemmas.Letters.{mapped_has}
+use Rattle.la_world.proofs.lemmas.Letters.{mapped_has, some_letters}
 use Rattle.la_embed.specs.declared.outgoing.Outgoing.{Outgoing}
 use Rattle.la_embed.specs.declared.outgoing.Outgoing.TheVariants as out
-use Rattle.la_embed.specs.Hosts.{HostState, IsHostStep, IsPostedAgain, IsPosted, IsToldBack}
-use Rattle.la_embed.specs.Hosts.{host_of, with_mail, with_letter, with_letters}
+use Rattle.la_embed.specs.Hosts.{HostState, IsHostStep, IsSentAgain, IsMendedIf, IsPosted, IsToldBack}
+use Rattle.la_embed.specs.Hosts.{host_of, with_mail, with_noted, with_letter, with_letters}
 use Rattle.la_embed.specs.Receiving.{TakesHostLine, TakesRead, IsTaken, BringsOwn, own_first, links_by}
 use Rattle.la_embed.specs.Together.{kept_of_hosts, AreHostsTogether, AreStillTogether, IsLineOfSent}
 use Rattle.la_embed.specs.Together.{IsCallOfSent, learnt_by_host, NewHostsAreTogether, StepsKeepHostsTogether}
@@ -155,13 +159,18 @@ put_behind own before letters more sent =
     put_all own more before (letters ++ more) (λ l has. Contains-append_right letters more l has)
     (λ l has. Contains-append_left letters more l (sent l has))
 
-posted : (heard : Links) (made : ReplicaState) (sent : List code.Message) (before mail : List Outgoing)
-    (letters : List Letter) → AreSent before letters → IsPosted heard made sent before mail
+posted : (heard : Links) (made : ReplicaState) (sent : List code.Message) (before mail : List Outgoing) (noted : Links)
+    (letters : List Letter) → AreSent before letters → IsPosted heard made sent before mail noted
     → AreSent mail (letters ++ letters_of heard made sent)
-posted heard made sent before mail letters old (inl put) =
-    subst (λ ms. AreSent ms (letters ++ letters_of heard made sent)) (sym put)
-    (put_behind made.own before letters (letters_of heard made sent) old)
-posted heard made sent before mail letters old (inr lost) =
+posted heard made sent before mail noted letters old (inl (put, now)) =
+    let all = letters ++ letters_of heard made sent in
+    subst (λ ms. AreSent ms all) (sym put)
+    (put_all made.own (letters_sent heard made sending.Call sent) before all
+    (λ l has.
+    Contains-append_right letters (letters_of heard made sent) l
+    (some_letters heard made (is_chosen heard sending.Call) sent l has))
+    (λ l has. Contains-append_left letters (letters_of heard made sent) l (old l has)))
+posted heard made sent before mail noted letters old (inr (lost, now)) =
     λ letter has.
     Contains-append_left letters (letters_of heard made sent) letter
     (old letter (subst (λ ms. Contains ms (out.Letter letter)) lost has))
@@ -256,24 +265,35 @@ module _ (hosts : List HostState) (letters : List Letter) (learnt : List LearntS
       (sym is.learnt)
       (calls (kept_of_hosts hosts) letters learnt r before.kept after.kept is.action given heard are.together at_kept
       is.brought is.step)) is.own
-      (posted heard after.kept given.mail before.mail after.mail letters waiting step.mail)
+      (posted heard after.kept given.mail before.mail after.mail after.links letters waiting step.mail)
 
-  again_on : RepeatsKeepTogether → (mail : List Outgoing) → IsPostedAgain before mail
-      → AreStillTogether hosts letters learnt r (with_mail before mail)
-  again_on again mail (sent, whole, told, is) =
-      let more = letters_of before.links before.kept (filter (is_owed before.links) sent) in (
+  again_on : RepeatsKeepTogether → (links : Links) (why : Sending) (after : HostState) (noted : Links)
+      → after.kept ≡ before.kept → IsSentAgain before.kept links why before.mail after.mail noted
+      → AreStillTogether hosts letters learnt r after
+  again_on again links why after noted same (sent, whole, told, (is, now)) =
+      let more = letters_sent links before.kept why sent in (
         more,
         (
           [],
-          subst (λ xs. AreHostsTogether (slice_set hosts r (with_mail before mail)) (letters ++ more) xs)
-              (sym (append-nil learnt))
-              (same_more (with_mail before mail) more refl
-              (again (kept_of_hosts hosts) letters learnt r before.kept sent before.links are.together at_kept whole
-              told)
+          subst (λ xs. AreHostsTogether (slice_set hosts r after) (letters ++ more) xs) (sym (append-nil learnt))
+              (same_more after more same
+              (again (kept_of_hosts hosts) letters learnt r before.kept sent links (is_chosen links why) are.together
+              at_kept whole told)
               (subst (λ ms. AreSent ms (letters ++ more)) (sym is)
               (put_behind before.kept.own before.mail letters more waiting))),
         ),
       )
+
+  -- what a replica lacks was told anew, or nothing was
+  mended_on : RepeatsKeepTogether → (lacks : Bool) (links : Links) (replica : ℕ) (after : HostState) (noted : Links)
+      → after.kept ≡ before.kept → IsMendedIf lacks before.kept links replica before.mail after.mail noted
+      → AreStillTogether hosts letters learnt r after
+  mended_on again false links replica after noted same (lost, now) =
+      quiet_on after same (subst (λ ms. AreSent ms letters) (sym lost) waiting)
+  mended_on again true links replica after noted same (inl sent) =
+      again_on again links (sending.Lack replica) after noted same sent
+  mended_on again true links replica after noted same (inr (lost, now)) =
+      quiet_on after same (subst (λ ms. AreSent ms letters) (sym lost) waiting)
 
   -- what is received is of a letter that was sent
   taken_on : CallsKeepTogether → (after : HostState) (letter : Letter) (nothing : Bool)
@@ -281,7 +301,7 @@ module _ (hosts : List HostState) (letters : List Letter) (learnt : List LearntS
       → AreStillTogether hosts letters learnt r after
   taken_on calls after letter true sent (told, is) =
       quiet_on after (ap (λ (h : HostState). h.kept) is)
-      (told_back (standing_of before.kept letter.parcel.from) before.mail after.mail letters told waiting)
+      (told_back (standing_of before.kept letter.parcel) before.mail after.mail letters told waiting)
   taken_on calls after letter false sent (given, step) =
       let heard = links_by before letter in
       let call = Receive (letter_message letter) in (
@@ -292,18 +312,18 @@ module _ (hosts : List HostState) (letters : List Letter) (learnt : List LearntS
         ),
       )
 
-  read_on : CallsKeepTogether → (after : HostState) (says : Result WireCall LineFault)
+  read_on : CallsKeepTogether → RepeatsKeepTogether → (after : HostState) (says : Result WireCall LineFault)
       → ((m : WireMessage) → says ≡ Ok (Receive m) → m.to ≡ r → IsCallOfSent letters (Receive m))
       → TakesRead before says after → AreStillTogether hosts letters learnt r after
-  read_on calls after (Err fault) may takes = absurd takes
-  read_on calls after (Ok (Submit replica object op)) may takes = absurd takes
-  read_on calls after (Ok (Decide replica commit value)) may takes = absurd takes
-  read_on calls after (Ok (Ask replica object query)) may takes = absurd takes
-  read_on calls after (Ok Tick) may takes = absurd takes
-  read_on calls after (Ok (Known s)) may (here, is) =
-      quiet_on after (ap (λ (h : HostState). h.kept) is)
-      (subst (λ (h : HostState). AreSent h.mail letters) (sym is) waiting)
-  read_on calls after (Ok (Receive m)) may (letter, is, takes) =
+  read_on calls again after (Err fault) may takes = absurd takes
+  read_on calls again after (Ok (Submit replica object op)) may takes = absurd takes
+  read_on calls again after (Ok (Decide replica commit value)) may takes = absurd takes
+  read_on calls again after (Ok (Ask replica object query)) may takes = absurd takes
+  read_on calls again after (Ok Tick) may takes = absurd takes
+  read_on calls again after (Ok (Known s)) may (here, (mended, is)) =
+      let heard = answered_with before.links s in
+      mended_on again (is_lacked heard s.from) heard s.from after after.links (ap (λ (h : HostState). h.kept) is) mended
+  read_on calls again after (Ok (Receive m)) may (letter, is, takes) =
       let to : letter.parcel.to ≡ r =
       eqb-true letter.parcel.to before.kept.own
       (and_right (letter.replicas == length before.kept.votes) (letter.parcel.to == before.kept.own) takes.here)
@@ -312,10 +332,10 @@ module _ (hosts : List HostState) (letters : List Letter) (learnt : List LearntS
       (subst (λ x. IsCallOfSent letters (Receive x)) (sym is)
       (may m refl (sym (ap (λ (x : WireMessage). x.to) is) ∙ to))) takes.taken
 
-  line_on : CallsKeepTogether → LettersAreReadBack → (after : HostState) (line : List ℕ) → IsLineOfSent letters r line
+  line_on : CallsKeepTogether → RepeatsKeepTogether → LettersAreReadBack → (after : HostState) (line : List ℕ) → IsLineOfSent letters r line
       → TakesHostLine before line after → AreStillTogether hosts letters learnt r after
-  line_on calls back after line may takes =
-      read_on calls after (bounded_call_of line)
+  line_on calls again back after line may takes =
+      read_on calls again after (bounded_call_of line)
       (λ m says to.
       let named : named_call line ≡ Some (Receive m) =
       when_short _ (call_of line) (Receive m) says in
@@ -346,15 +366,15 @@ once_more hosts letters learnt r left after on = (
   ),
 )
 
-own_on : CallsKeepTogether → LettersAreReadBack → (hosts : List HostState) (letters : List Letter)
+own_on : CallsKeepTogether → RepeatsKeepTogether → LettersAreReadBack → (hosts : List HostState) (letters : List Letter)
     (learnt : List LearntSet) (r : ℕ)
     (before after : HostState) (brought : Bool) (o : Option Letter) → AreHostsTogether hosts letters learnt
     → slice_get hosts r ≡ Some before → own_first before.kept before.mail ≡ o → BringsOwn before o brought after
     → AreStillTogether hosts letters learnt r after
-own_on calls back hosts letters learnt r before after brought None are at is (none, same) =
+own_on calls again back hosts letters learnt r before after brought None are at is (none, same) =
     quiet_on hosts letters learnt r before are at after (ap (λ (h : HostState). h.kept) same)
     (subst (λ (h : HostState). AreSent h.mail letters) (sym same) (waiting hosts letters learnt r before are at))
-own_on calls back hosts letters learnt r before after brought (Some letter) are at is (first, how) =
+own_on calls again back hosts letters learnt r before after brought (Some letter) are at is (first, how) =
     let left = with_mail before (drop 1 before.mail) in
     let sent = waiting hosts letters learnt r before are at in
     let fewer : AreSent left.mail letters =
@@ -370,7 +390,7 @@ own_on calls back hosts letters learnt r before after brought (Some letter) are 
       | inr other ↦ elim other [
         | inl line ↦
             once_more hosts letters learnt r left after
-            (line_on (slice_set hosts r left) letters learnt r left still there calls back after
+            (line_on (slice_set hosts r left) letters learnt r left still there calls again back after
             (message_text (letter_message letter))
             (λ m named to. (letter, its, record { typed = line.0; text = refl })) line.1)
         | inr lost ↦
@@ -420,17 +440,18 @@ pub steps : CallsKeepTogether → StepsKeepHostsTogether
 steps calls hosts letters learnt r before after heard call given are at sent step =
     step_on hosts letters learnt r before are at calls after heard call given sent step
 
-pub lines : CallsKeepTogether → LettersAreReadBack → LinesKeepHostsTogether
-lines calls back hosts letters learnt r before after line are at may takes =
-    line_on hosts letters learnt r before are at calls back after line may takes
+pub lines : CallsKeepTogether → RepeatsKeepTogether → LettersAreReadBack → LinesKeepHostsTogether
+lines calls again back hosts letters learnt r before after line are at may takes =
+    line_on hosts letters learnt r before are at calls again back after line may takes
 
-pub own_mail : CallsKeepTogether → LettersAreReadBack → OwnMailKeepsHostsTogether
-own_mail calls back hosts letters learnt r before after brought are at is =
-    own_on calls back hosts letters learnt r before after brought (own_first before.kept before.mail) are at refl is
+pub own_mail : CallsKeepTogether → RepeatsKeepTogether → LettersAreReadBack → OwnMailKeepsHostsTogether
+own_mail calls again back hosts letters learnt r before after brought are at is =
+    own_on calls again back hosts letters learnt r before after brought (own_first before.kept before.mail) are at refl is
 
 pub repeats : RepeatsKeepTogether → RepeatsKeepHostsTogether
-repeats again hosts letters learnt r before mail are at is =
-    again_on hosts letters learnt r before are at again mail is
+repeats again hosts letters learnt r before mail noted are at is =
+    again_on hosts letters learnt r before are at again (asked_with before.links (progress_of before.kept))
+    sending.Timer (with_noted before mail noted) noted refl is
 
 pub others : OthersKeepHostsTogether
 others hosts letters learnt r before after are at same waits =

@@ -1,5 +1,6 @@
 -- A host: a node with a shelf of objects, what waits to be sent, and what of its view was handed on.
-use Rattle.std.specs.Prelude.{◌≡◌, ◌⊎◌, ⊤, ℕ, ◌<◌, ◌==◌, List, [], ◌∷◌, ◌++◌, filter, length, Option, Some, None}
+use Rattle.std.specs.Prelude.{◌≡◌, ◌⊎◌, ⊤, ℕ, ◌<◌, ◌==◌, Bool, true, false, List, [], ◌∷◌, ◌++◌, length, Option}
+use Rattle.std.specs.Prelude.{Some, None}
 use Rattle.std.specs.Prelude.{if◌then◌else◌}
 use Rattle.la_set.specs.declared.counts.Counts.{Counts}
 use Rattle.la_set.specs.Counts.{zero_counts}
@@ -13,11 +14,14 @@ use Rattle.la_replica.specs.Bases.{AreToldIn}
 use Rattle.la_replica.specs.Whole.{whole_mail}
 use Rattle.la_object.specs.Shelves.{ShelfState}
 use Rattle.la_replica.specs.declared.message.Message as code
+use Rattle.la_replica.specs.Progress.{progress_of}
 use Rattle.la_replica.specs.ReplicaState.{ReplicaState, submitted_in}
 use Rattle.la_node.specs.declared.link.Letter.{Letter}
 use Rattle.la_node.specs.declared.link.Links.{Links}
+use Rattle.la_node.specs.declared.link.Sending.{Sending}
 use Rattle.la_node.specs.declared.link.Standing.{Standing}
-use Rattle.la_node.specs.Links.{letters_of, is_owed, no_links}
+use Rattle.la_node.specs.declared.link.Sending.TheVariants as sending
+use Rattle.la_node.specs.Links.{letters_sent, noted_all, asked_with, links_over, is_lacked}
 use Rattle.la_node.specs.Steps.{Given}
 use Rattle.la_wire.specs.Calls.{WireCall}
 use Rattle.la_durable.specs.Nodes.{acts, empty_shelf}
@@ -44,12 +48,12 @@ pub record IsHost (h : HostState) : Type 0 where
   pub absorbed : IsSubset h.shelf.view h.kept.view
   pub journaled : IsJournaled h.journal h.kept
 
--- a host without objects and mail, which has heard nothing
+-- a host without objects and mail, which has heard nothing, and believes others to be as far as it is
 abbrev pub host_over : Option JournalState → ReplicaState → HostState
 host_over journal kept = record {
   kept = kept;
   shelf = empty_shelf;
-  links = no_links;
+  links = links_over (progress_of kept);
   mail = [];
   handed = zero_counts;
   journal = journal;
@@ -71,24 +75,43 @@ abbrev pub with_letters : (own : ℕ) → List Outgoing → List Letter → List
 with_letters own mail [] = mail
 with_letters own mail (letter ∷ letters) = with_letters own (with_letter own mail letter) letters
 
--- A node's mail is put to what waits, each message as a letter over what is known of its receiver; or there was no
--- memory, and all of it is lost, as a transport may lose it.
+-- letters are put to what waits, and note is taken of them
+abbrev pub IsSent : Links → (own : ℕ) → List Letter → (before mail : List Outgoing) → (noted : Links) → Type 0
+IsSent links own letters before mail noted =
+    (mail ≡ with_letters own before letters) × (noted ≡ noted_all links letters)
+
+-- A node's mail is put to what waits, each message that goes out as a letter over what was sent to its receiver; or
+-- there was no memory, and all of it is lost, as a transport may lose it.
 abbrev pub IsPosted : Links → (after : ReplicaState) → (sent : List code.Message) → (before mail : List Outgoing)
-    → Type 0
-IsPosted links after sent before mail =
-    (mail ≡ with_letters after.own before (letters_of links after sent)) ⊎ (mail ≡ before)
+    → (noted : Links) → Type 0
+IsPosted links after sent before mail noted =
+    IsSent links after.own (letters_sent links after sending.Call sent) before mail noted
+    ⊎ ((mail ≡ before) × (noted ≡ links))
 
 -- a standing is put there, or was lost so
 abbrev pub IsToldBack : Standing → (before mail : List Outgoing) → Type 0
 IsToldBack standing before mail = (mail ≡ before ++ out.Standing standing ∷ []) ⊎ (mail ≡ before)
 
--- what waits for an answer is put there once more, but for what others are known to have
-abbrev pub IsPostedAgain : (before : HostState) → (mail : List Outgoing) → Type 0
-IsPostedAgain before mail =
-    (sent : List code.Message) × (whole_mail sent ≡ again before.kept)
-    × ((offered : Counts) → AreToldIn before.kept offered sent)
-    × (mail ≡ with_letters before.kept.own before.mail
-    (letters_of before.links before.kept (filter (is_owed before.links) sent)))
+-- of what waits for an answer some is put there once more
+abbrev pub IsSentAgain : ReplicaState → Links → Sending → (before mail : List Outgoing) → (noted : Links) → Type 0
+IsSentAgain kept links why before mail noted =
+    (sent : List code.Message) × (whole_mail sent ≡ again kept) × ((offered : Counts) → AreToldIn kept offered sent)
+    × IsSent links kept.own (letters_sent links kept why sent) before mail noted
+
+-- but for what others are known to have; to whom nothing more is told it asks how far they are
+abbrev pub IsPostedAgain : (before : HostState) → (mail : List Outgoing) → (noted : Links) → Type 0
+IsPostedAgain before mail noted =
+    IsSentAgain before.kept (asked_with before.links (progress_of before.kept)) sending.Timer before.mail mail noted
+
+-- What a replica lacks is told anew, where it said so; or there was no memory, and it is lost.
+abbrev pub IsMendedIf : (lacks : Bool) → ReplicaState → Links → (replica : ℕ) → (before mail : List Outgoing)
+    → (noted : Links) → Type 0
+IsMendedIf false kept links r before mail noted = (mail ≡ before) × (noted ≡ links)
+IsMendedIf true kept links r before mail noted =
+    IsSentAgain kept links (sending.Lack r) before mail noted ⊎ ((mail ≡ before) × (noted ≡ links))
+
+abbrev pub IsMended : ReplicaState → Links → (replica : ℕ) → (before mail : List Outgoing) → (noted : Links) → Type 0
+IsMended kept links r before mail noted = IsMendedIf (is_lacked links r) kept links r before mail noted
 
 -- why no tags are told
 abbrev pub IsUnseen : Option (List UpdateId) → ShelfError → Type 0
@@ -101,12 +124,11 @@ IsUnseen o shelf.NotFresh = ⊥
 -- ## Steps
 
 -- the node took this call, its journal the call's line, and what it sends waits; nothing else has changed but what was
--- heard of others
+-- heard of others and sent to them
 pub record IsHostStep (before : HostState) (heard : Links) (call : WireCall) (given : Given) (after : HostState)
     : Type 0 where
   pub does : acts before.kept call ≡ Some (given, after.kept)
-  pub mail : IsPosted heard after.kept given.mail before.mail after.mail
-  pub links : after.links ≡ heard
+  pub mail : IsPosted heard after.kept given.mail before.mail after.mail after.links
   pub shelf : after.shelf ≡ before.shelf
   pub handed : after.handed ≡ before.handed
   pub journal : JournalsCall before.kept call given after.kept before.journal after.journal
@@ -141,6 +163,11 @@ with_links h links =
 abbrev pub with_mail : HostState → List Outgoing → HostState
 with_mail h mail =
     record { kept = h.kept; shelf = h.shelf; links = h.links; mail = mail; handed = h.handed; journal = h.journal }
+
+-- the same with other mail, of which note was taken
+abbrev pub with_noted : HostState → List Outgoing → Links → HostState
+with_noted h mail links =
+    record { kept = h.kept; shelf = h.shelf; links = links; mail = mail; handed = h.handed; journal = h.journal }
 
 -- with its journal as this
 abbrev pub with_journal : HostState → Option JournalState → HostState

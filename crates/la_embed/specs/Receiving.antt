@@ -2,11 +2,11 @@
 use Rattle.std.specs.Prelude.{◌≡◌, ◌⊎◌, ℕ, ◌==◌, Bool, true, false, ◌&&◌, List, [], ◌∷◌, Ok, Err, Result}
 use Rattle.std.specs.Prelude.{length, drop}
 use Rattle.std.specs.Prelude.{Option, Some, None, if◌then◌else◌}
-use Rattle.la_replica.specs.Progress.{progress_of}
 use Rattle.la_replica.specs.ReplicaState.{ReplicaState}
 use Rattle.la_node.specs.declared.link.Letter.{Letter}
 use Rattle.la_node.specs.declared.link.Links.{Links}
-use Rattle.la_node.specs.Links.{known_with, standing_of, wants_standing}
+use Rattle.la_node.specs.declared.link.Standing.{Standing}
+use Rattle.la_node.specs.Links.{answered_with, known_with, standing_of, wants_standing}
 use Rattle.la_wire.specs.declared.error.LineFault.{LineFault}
 use Rattle.la_wire.specs.Calls.{WireCall, Submit, Decide, Ask, Tick, Receive, Known}
 use Rattle.la_wire.specs.CallLines.{bounded_call_of, may_stand}
@@ -21,7 +21,7 @@ use Rattle.la_embed.specs.declared.error.HostError.TheVariants.{Line, NoMessage,
 use Rattle.la_embed.specs.declared.outgoing.Outgoing.{Outgoing}
 use Rattle.la_embed.specs.declared.outgoing.Outgoing.TheVariants as out
 use Rattle.la_embed.specs.Journals.{IsRefusedOver}
-use Rattle.la_embed.specs.Hosts.{HostState, TakesCall, IsToldBack, with_links, with_mail}
+use Rattle.la_embed.specs.Hosts.{HostState, TakesCall, IsToldBack, IsMended, with_links, with_mail, with_noted}
 use Rattle.la_embed.specs.Refusals.{host_error_of_node}
 
 -- ## What a host makes of it
@@ -32,13 +32,13 @@ is_for_host kept replicas to = (replicas == length kept.votes) && (to == kept.ow
 
 -- what is known once a letter was heard
 abbrev pub links_by : HostState → Letter → Links
-links_by before letter = known_with before.links (progress_of before.kept) letter.parcel.from letter.progress
+links_by before letter = known_with before.links letter.parcel.from letter.progress
 
 -- A letter over more than the host has, or that brings nothing, is answered by how far the host is. Any other is
 -- received.
 abbrev pub IsTaken : HostState → Letter → (idle : Bool) → HostState → Type 0
 IsTaken before letter true after =
-    IsToldBack (standing_of before.kept letter.parcel.from) before.mail after.mail
+    IsToldBack (standing_of before.kept letter.parcel) before.mail after.mail
     × (after ≡ with_mail (with_links before (links_by before letter)) after.mail)
 IsTaken before letter false after =
     TakesCall before (links_by before letter) (Receive (letter_message letter)) after
@@ -47,14 +47,19 @@ pub record TakesLetter (before : HostState) (letter : Letter) (after : HostState
   pub here : is_for_host before.kept letter.replicas letter.parcel.to ≡ true
   pub taken : IsTaken before letter (wants_standing before.kept letter.parcel) after
 
+-- Another says how far it is: where it lacks what a letter was told over, it is told that.
+abbrev pub TakesStanding : HostState → Standing → HostState → Type 0
+TakesStanding before s after =
+    IsMended before.kept (answered_with before.links s) s.from before.mail after.mail after.links
+    × (after ≡ with_noted before after.mail after.links)
+
 -- a letter, or how far another is, was read
 abbrev pub TakesRead : HostState → Result WireCall LineFault → HostState → Type 0
 TakesRead before (Err fault) after = ⊥
 TakesRead before (Ok (Receive m)) after = (letter : Letter) × (letter_message letter ≡ m)
     × TakesLetter before letter after
 TakesRead before (Ok (Known s)) after =
-    (is_for_host before.kept s.replicas s.to ≡ true)
-    × (after ≡ with_links before (known_with before.links (progress_of before.kept) s.from s.progress))
+    (is_for_host before.kept s.replicas s.to ≡ true) × TakesStanding before s after
 TakesRead before (Ok (Submit replica object op)) after = ⊥
 TakesRead before (Ok (Decide replica commit value)) after = ⊥
 TakesRead before (Ok (Ask replica object query)) after = ⊥

@@ -27,7 +27,7 @@ use Rattle.la_world.specs.LiveGroups.{LearntSet, learnt_set}
 use Rattle.la_world.specs.Together.{AreTogether}
 use Rattle.la_embed.specs.declared.outgoing.Outgoing.{Outgoing}
 use Rattle.la_embed.specs.declared.outgoing.Outgoing.TheVariants as out
-use Rattle.la_embed.specs.Hosts.{HostState, IsHostStep, IsPostedAgain, host_of, with_mail}
+use Rattle.la_embed.specs.Hosts.{HostState, IsHostStep, IsPostedAgain, host_of, with_noted}
 use Rattle.la_embed.specs.Receiving.{TakesHostLine, BringsOwn, own_first}
 
 -- ## What they are
@@ -92,8 +92,8 @@ abbrev pub NewHostsAreTogether : Type 0
 NewHostsAreTogether =
     (c : Config) → IsConfig c → AreHostsTogether (map host_of (replica_states_at_start c)) [] []
 
--- After a step of one of them, with all the letters of the step. Where its mail was lost for want of memory, these
--- letters are as good as sent and lost on their way.
+-- After a step of one of them, with all the letters of the step. Where its mail was lost for want of memory, or stays
+-- since its receiver is not heard, these letters are as good as sent and lost on their way.
 abbrev pub StepsKeepHostsTogether : Type 0
 StepsKeepHostsTogether =
     (hosts : List HostState) (letters : List Letter) (learnt : List LearntSet) (r : ℕ) (before after : HostState)
@@ -125,9 +125,9 @@ OwnMailKeepsHostsTogether =
 abbrev pub RepeatsKeepHostsTogether : Type 0
 RepeatsKeepHostsTogether =
     (hosts : List HostState) (letters : List Letter) (learnt : List LearntSet) (r : ℕ) (before : HostState)
-    (mail : List Outgoing) →
-    AreHostsTogether hosts letters learnt → slice_get hosts r ≡ Some before → IsPostedAgain before mail →
-    AreStillTogether hosts letters learnt r (with_mail before mail)
+    (mail : List Outgoing) (noted : Links) →
+    AreHostsTogether hosts letters learnt → slice_get hosts r ≡ Some before → IsPostedAgain before mail noted →
+    AreStillTogether hosts letters learnt r (with_noted before mail noted)
 
 -- after anything that leaves what one of them keeps, and puts no letter to what waits: so are mail that was sent,
 -- updates that were handed on, objects and questions

@@ -1,18 +1,17 @@
 ghost use Rattle.std.specs.Prelude.{◌≡◌, ◌≢◌, ◌<◌, ◌+◌, ◌++◌, ◌∷◌, [], Ok, Some, None, IfOk, IfErr, OnOk, OnErr};
-ghost use Rattle.std.specs.Prelude.{◌↔◌, IsTrue, true, false, option_map, drop, filter, length, slice_get};
+ghost use Rattle.std.specs.Prelude.{◌↔◌, IsTrue, true, false, option_map, drop, length, slice_get};
 ghost use Rattle.std.specs.Option.{option_copied};
 ghost use Rattle.la_object.specs.Objects.{kind_of};
 ghost use Rattle.la_object.specs.Shelves.{kind_at, answer_at, tags_at};
 ghost use Rattle.la_object.specs.Refusals.{IsAddRefusal, IsAskRefusal};
 ghost use Rattle.la_node.specs.Configs.{IsConfig};
-ghost use Rattle.la_node.specs.Links.{known_of, is_owed, letters_of};
+ghost use Rattle.la_node.specs.Links.{known_of, letters_sent};
 ghost use Rattle.la_node.specs.Nodes.{node_at_start, returned_by, IsStartRefusal};
 ghost use Rattle.std.specs.VecDeque.{deque_len, deque_capacity};
 ghost use Rattle.la_wire.specs.Calls.{called, Submit, Decide, Receive};
 ghost use Rattle.la_wire.specs.CallLines.{named_call, may_stand};
 ghost use Rattle.la_wire.specs.Messages.{letter_message};
 ghost use Rattle.la_wire.specs.Writable.{IsCall};
-ghost use Rattle.la_node.specs.Links.{standing_of};
 ghost use Rattle.la_durable.specs.Nodes.{empty_shelf};
 ghost use Rattle.la_durable.specs.Errors.{IsActRefusal};
 ghost use Rattle.la_set.specs.ObjectOps.{object_op_of, update_of};
@@ -25,7 +24,8 @@ ghost use Rattle.la_embed.specs.Keepers.{state_kept, journal_in, is_own_call};
 ghost use Rattle.la_embed.specs.Numbers.{SubmitsUnder, IsNumberRefusal, RefusesToSubmit, RefusesToPropose};
 ghost use Rattle.la_embed.specs.Learnt.{IsNextLearnt, handed_noting};
 ghost use Rattle.la_embed.specs.Hosts.{host_of, host_over, shelf_now, submitted_by, with_handed, with_journal, with_mail};
-ghost use Rattle.la_embed.specs.Hosts.{TakesCall, IsPosted, IsToldBack, IsPostedAgain, IsUnseen, with_letter, with_letters, with_objects};
+ghost use Rattle.la_embed.specs.Hosts.{TakesCall, IsSent, IsPosted, IsToldBack, IsPostedAgain, IsMended, IsUnseen};
+ghost use Rattle.la_embed.specs.Hosts.{with_letter, with_letters, with_noted, with_objects};
 ghost use Rattle.la_embed.specs.Receiving.{TakesHostLine, TakesLetter, TakesByLine, RefusesHere, IsLineRefusal, BringsOwn};
 ghost use Rattle.la_embed.specs.Receiving.{own_first};
 ghost use Rattle.la_embed.specs.Receiving.{is_for_host};
@@ -37,13 +37,12 @@ use crate::learnt::{handed_with, next_id};
 use crate::{HostError, NumberError, Outgoing, Unrecovered};
 use la_commit::Outcome;
 use la_durable::{NodeError, NodeMachine};
-use la_node::{Config, Done, Letter, Links, Node, Received, WorldError};
-use la_object::{Answer, Counter, Query, Replicated, Shelf, ShelfError};
+use la_node::{Config, Done, Letter, Links, Received, Sending, Standing, WorldError};
+use la_object::{Answer, Query, Replicated, Shelf, ShelfError};
 use la_proposer::{Proposer, laws};
 use la_replica::{Mail, Progress};
 use la_set::{Counts, Op, Tags, Update, UpdateId, UpdateSet};
 use la_wire::{Call, put_letter, read_bounded};
-use smallvec::SmallVec;
 use std::alloc::{AllocError, Global};
 use std::collections::VecDeque;
 use std::marker::Model;
@@ -130,11 +129,12 @@ impl<B: Replicated> Host<B> {
         requires { IsJournaled (journal_in keeper) (state_kept keeper) }
         ensures { result ≡ host_over (journal_in keeper) (state_kept keeper) }
     {
+        let links = Links::over(keeper.node().progress());
         Host {
             alloc,
             keeper,
             shelf: Shelf::new(alloc),
-            links: Links::new(),
+            links,
             mail: VecDeque::new(alloc),
             handed: Counts::zero(),
         }
@@ -236,16 +236,42 @@ impl<B: Replicated> Host<B> {
         self.shelf.add(number, object)
     }
 
-    // Puts mail of the node to what waits. Where there is no memory it is lost, as a transport may lose it.
-    fn post(&mut self, mail: Mail)
-        ensures mail { IsPosted self.old.links self.old.kept mail self.old.mail self.new.mail }
-        ensures same { self.new ≡ with_mail self.old self.new.mail }
+    // Puts of mail of the node what is sent to what waits, as letters over these links, and takes note of them.
+    fn send(&mut self, links: Links, mail: Mail, why: Sending) -> Result<(), AllocError>
+        ensures ok { OnOk result (IsSent links self.old.kept.own (letters_sent links self.old.kept why mail)
+            self.old.mail self.new.mail self.new.links) }
+        ensures same { self.new ≡ with_noted self.old self.new.mail self.new.links }
+        ensures err { OnErr result (self.new ≡ self.old) }
     {
         let own = self.own();
-        let Ok(letters) = self.links.letters(self.alloc, self.keeper.node(), mail) else {
+        let letters = links.letters(self.alloc, self.keeper.node(), mail, why)?;
+        let mut noted = links;
+        noted.note_all(&letters);
+        put_letters(&mut self.mail, own, letters)?;
+        self.links = noted;
+        Ok(())
+    }
+
+    // Puts mail of the node to what waits. Where there is no memory it is lost, as a transport may lose it.
+    fn post(&mut self, mail: Mail)
+        ensures mail { IsPosted self.old.links self.old.kept mail self.old.mail self.new.mail self.new.links }
+        ensures same { self.new ≡ with_noted self.old self.new.mail self.new.links }
+    {
+        let _lost = self.send(self.links, mail, Sending::Call);
+    }
+
+    // Tells a replica anew what it lacks, where it said so. Where there is no memory that is lost.
+    fn mend(&mut self, replica: u8)
+        ensures mail { IsMended self.old.kept self.old.links replica self.old.mail self.new.mail self.new.links }
+        ensures same { self.new ≡ with_noted self.old self.new.mail self.new.links }
+    {
+        if !self.links.is_lacked(replica) {
+            return;
+        }
+        let Ok(mail) = self.keeper.node().again() else {
             return;
         };
-        let _lost = put_letters(&mut self.mail, own, letters);
+        let _lost = self.send(self.links, mail, Sending::Lack(replica));
     }
 
     // Takes a call, by its line where there is a journal: one step of the node, with what is known of others from then
@@ -347,11 +373,10 @@ impl<B: Replicated> Host<B> {
     }
 
     // Answers a letter that is not received by how far the host is. Where there is no memory the answer is lost, as a transport may lose it.
-    fn tell_back(&mut self, to: u8)
-        ensures mail { IsToldBack (standing_of self.old.kept to) self.old.mail self.new.mail }
+    fn tell_back(&mut self, standing: Standing)
+        ensures mail { IsToldBack standing self.old.mail self.new.mail }
         ensures same { self.new ≡ with_mail self.old self.new.mail }
     {
-        let standing = self.keeper.node().standing(to);
         let Ok(()) = self.mail.reserve(1) else {
             return;
         };
@@ -368,13 +393,13 @@ impl<B: Replicated> Host<B> {
         if !is_for_host(&self.keeper, letter.replicas, letter.parcel.to) {
             return Err(HostError::Node(NodeError::Elsewhere));
         }
-        let from = letter.parcel.from;
         let node = self.keeper.node();
         let mut links = self.links;
-        links.hear(from, letter.progress, node.progress());
+        links.hear(letter.parcel.from, letter.progress);
         if node.wants_standing(&letter.parcel) {
+            let standing = node.standing(&letter.parcel);
             self.links = links;
-            self.tell_back(from);
+            self.tell_back(standing);
             return Ok(());
         }
         self.act(Call::Receive(letter), line, links)?;
@@ -383,7 +408,8 @@ impl<B: Replicated> Host<B> {
 
     /// Takes a line of another replica's, without its end, honest or not: a message, which is a step of the node, or
     /// how far another is. A message that tells nothing new, or over more than this one has, is answered by how far this
-    /// one is. What is to be sent waits, as that of a submission does.
+    /// one is; and another that lacks what a letter of this one was told over is told that at once. What is to be sent
+    /// waits, as that of a submission does.
     ///
     /// In this order: `Line` where the line has a fault; `NoMessage` where it is something that clients ask;
     /// `Node(Elsewhere)` where it is for another replica or group; `Node` where the node refuses the message, as no
@@ -400,8 +426,8 @@ impl<B: Replicated> Host<B> {
                 if !is_for_host(&self.keeper, standing.replicas, standing.to) {
                     return Err(HostError::Node(NodeError::Elsewhere));
                 }
-                let own = self.keeper.node().progress();
-                self.links.hear(standing.from, standing.progress, own);
+                self.links.hear_answer(&standing);
+                self.mend(standing.from);
                 Ok(())
             }
             Call::Submit { .. } | Call::Decide { .. } | Call::Ask { .. } | Call::Tick => {
@@ -411,16 +437,17 @@ impl<B: Replicated> Host<B> {
     }
 
     /// Puts what waits for an answer behind what is to be sent once more, but for sets that their receivers are known
-    /// to have: what a timer is to call. After a refusal nothing has changed.
+    /// to have: what a timer is to call. To a replica of which more than [`MOST_UNHEARD`](la_node::MOST_UNHEARD) updates
+    /// are unheard it only puts what asks how far that is. After a refusal nothing has changed.
     pub fn again(&mut self) -> Result<(), AllocError>
-        ensures ok { OnOk result (IsPostedAgain self.old self.new.mail) }
-        ensures same { self.new ≡ with_mail self.old self.new.mail }
+        ensures ok { OnOk result (IsPostedAgain self.old self.new.mail self.new.links) }
+        ensures same { self.new ≡ with_noted self.old self.new.mail self.new.links }
         ensures err { OnErr result (self.new ≡ self.old) }
     {
-        let own = self.own();
-        let mail = self.keeper.node().again()?;
-        let letters = owed(self.alloc, &self.links, self.keeper.node(), mail)?;
-        put_letters(&mut self.mail, own, letters)
+        let node = self.keeper.node();
+        let mail = node.again()?;
+        let asked = self.links.asked(node.progress());
+        self.send(asked, mail, Sending::Timer)
     }
 
     /// What is to be sent next: what is for this node itself, and then the oldest.
@@ -575,25 +602,6 @@ fn put_reserved(mail: &mut VecDeque<Outgoing>, own: u8, letter: Letter)
     } else {
         mail.push_back_reserved(Outgoing::Letter(letter));
     }
-}
-
-// The letters of mail, but for sets that their receivers are known to have.
-fn owed(
-    alloc: Global,
-    links: &Links,
-    node: &Node<Counter>,
-    mail: Mail,
-) -> Result<Vec<Letter>, AllocError>
-    ensures { IfOk result (λ letters. letters.items
-        ≡ letters_of links.now node.now.replica (filter (is_owed links.now) mail)) }
-{
-    let mut letters = Vec::with_capacity(alloc, mail.len())?;
-    for message in SmallVec::from(mail) {
-        if links.is_owed(&message) {
-            letters.push(links.letter(node, message)?)?;
-        }
-    }
-    Ok(letters)
 }
 
 // Whether a message is for this replica of this group.

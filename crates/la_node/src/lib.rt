@@ -15,10 +15,11 @@ mod link;
 mod node;
 mod participant;
 mod resumed;
+mod track;
 
 pub use config::Config;
 pub use done::{Done, Voted};
 pub use error::WorldError;
-pub use link::{Letter, Links, PATIENCE, Standing};
+pub use link::{Letter, Link, Links, MOST_UNHEARD, Sending, Standing};
 pub use node::{Node, Received};
 pub use participant::outcome_by;

@@ -30,7 +30,7 @@ ghost use Rattle.la_node.specs.Nodes.{followed, with_shelf, MayStart, node_at_st
 ghost use Rattle.la_node.specs.Nodes.{IsStartRefusal, IsProposeRefusal, IsObservedRefusal};
 ghost use Rattle.la_node.specs.Nodes.{outcome_due, OutcomesStayIn, ReturnsIn, LeftUntoldNode};
 
-use crate::link::tells_nothing;
+use crate::link::{bases_of, tells_nothing};
 use crate::participant::{for_memory, outcome_by, returned, take_noting, take_prepared};
 use crate::resumed::are_participants;
 use crate::{Config, Done, Standing, WorldError};
@@ -169,15 +169,16 @@ impl<B: Replicated> Node<B> {
         self.replica.progress()
     }
 
-    /// How far it is, for another replica: the answer to a letter of that one which told it nothing new.
-    pub fn standing(&self, to: u8) -> Standing
-        ensures { result ≡ standing_of self.now.replica to }
+    /// How far it is, for the sender of a parcel: the answer to one that told nothing new, or over more than is here.
+    pub fn standing(&self, parcel: &Parcel) -> Standing
+        ensures { result ≡ standing_of self.now.replica parcel.now }
     {
         Standing {
             replicas: self.replicas(),
             from: self.own(),
-            to,
+            to: parcel.from,
             progress: self.progress(),
+            over: bases_of(&parcel.content),
         }
     }
 

@@ -23,6 +23,9 @@ use Rattle.la_replica.specs.Steps.{learnt_in}
 use Rattle.la_replica.specs.Steps as steps
 use Rattle.la_replica.specs.Whole.{Message, Out}
 use Rattle.la_node.specs.declared.link.Letter.{Letter}
+use Rattle.la_node.specs.declared.link.Sending.TheVariants as sending
+use Rattle.la_node.specs.Links.{letters_of, letters_sent, is_chosen}
+use Rattle.la_world.proofs.lemmas.Letters.{some_letters}
 use Rattle.la_node.specs.Accepting.{accepts, is_for, takes_message, unwraps, parcel_call}
 use Rattle.la_node.specs.Calls.{NodeCall, Submitted, Proposed, Received}
 use Rattle.la_node.specs.SecondVotes.{Submission}
@@ -41,7 +44,8 @@ use Rattle.la_durable.specs.Nodes.{acts, node_call, parcel_of, content_of}
 use Rattle.la_durable.specs.Restarts.{LeadBetween, RestartsTakeCalls}
 use Rattle.la_world.specs.LiveGroups.{LearntSet, learnt_set, learnt_by_call}
 use Rattle.la_world.specs.Together.{AreTogether, IsOfLetters, IsBrought, LeadBrought, NewReplicasAreTogether}
-use Rattle.la_world.specs.Together.{CallsKeepTogether, LostCallsKeepTogether, RepeatsKeepTogether}
+use Rattle.la_world.specs.Together.{CallsKeepTogether, FewerLettersKeepTogether, LostCallsKeepTogether}
+use Rattle.la_world.specs.Together.{RepeatsKeepTogether}
 use Rattle.la_serve.specs.Heard.{HeardLine}
 use Rattle.la_serve.specs.Turns.{ServerState, Turn, noted_by}
 use Rattle.la_serve.specs.Starting.{newly_started}
@@ -296,7 +300,7 @@ module _ (nodes : List ServerState) (letters : List Letter) (learnt : List Learn
 
   again_on : RepeatsKeepTogether → (t : Turn) → Repeats n t
       → AreProcesses (slice_set nodes r t.after) (letters ++ t.sent) (learnt ++ t.learnt)
-  again_on again t (known, it) =
+  again_on again t (known, over, why, it) =
       let kept : t.after.kept ≡ n.kept = ap (λ (u : Turn). u.after.kept) it.turn in
       record {
         together =
@@ -304,14 +308,16 @@ module _ (nodes : List ServerState) (letters : List Letter) (learnt : List Learn
             (learnt ++ t.learnt) (same_states t.after kept)
             (sym (ap (λ (u : Turn). letters ++ u.sent) it.turn))
             (sym (ap (λ (u : Turn). learnt ++ u.learnt) it.turn ∙ append-nil learnt))
-            (again (kept_of_all nodes) letters learnt r n.kept it.mail known are.together at_kept it.whole it.over);
+            (again (kept_of_all nodes) letters learnt r n.kept it.mail over (is_chosen over why) are.together at_kept
+            it.whole it.over);
         own = owns_on t.after (ap (λ (s : ReplicaState). s.own) kept ∙ own);
       }
 
-  took_on : SubmissionsAreReadSo → CallsKeepTogether → LettersAreReadBack → (t : Turn) → Takes n t
+  took_on : SubmissionsAreReadSo → CallsKeepTogether → FewerLettersKeepTogether → LettersAreReadBack → (t : Turn)
+      → Takes n t
       → IsHandedLine letters r t.heard.line
       → AreProcesses (slice_set nodes r t.after) (letters ++ t.sent) (learnt ++ t.learnt)
-  took_on say calls back t it handed =
+  took_on say calls fewer back t it handed =
       let given = it.taken.given in
       let does = call_of_line n.kept it.call (given, t.after.kept) it.taken.acted in
       let so = brought letters r n.kept own does.0 (accepted n.kept does.0 (given, t.after.kept) does.2).0 it.call
@@ -319,28 +325,38 @@ module _ (nodes : List ServerState) (letters : List Letter) (learnt : List Learn
       (λ m same to.
       let says : named_call t.heard.call ≡ Some (Receive m) = it.says ∙ ap Some same in
       of_letters back letters t.heard.call m says (handed_so say letters r t.heard it.heard handed m says to)) in
+      let all = letters_of it.known t.after.kept given.mail in
+      let some = letters_sent it.known t.after.kept sending.Call given.mail in
       record {
         together =
             moved (slice_set (kept_of_all nodes) r t.after.kept) (kept_of_all (slice_set nodes r t.after)) _
             (letters ++ t.sent) _ (learnt ++ t.learnt) (sym (set_kept nodes r t.after))
             (ap (λ ls. letters ++ ls) (sym it.taken.sent))
             (ap (λ ls. learnt ++ ls) (sym (it.taken.learnt ∙ so.1 given)))
+            (fewer (slice_set (kept_of_all nodes) r t.after.kept) (letters ++ all) (letters ++ some) _
             (calls (kept_of_all nodes) letters learnt r n.kept t.after.kept does.0 given it.known are.together at_kept
-            so.0 does.2);
+            so.0 does.2)
+            (λ letter has. elim (Contains-append_cases letters some letter has) [
+              | inl old ↦ Contains-append_left letters all letter old
+              | inr new ↦
+                  Contains-append_right letters all letter
+                  (some_letters it.known t.after.kept (is_chosen it.known sending.Call) given.mail letter new)
+            ]));
         own = owns_on t.after (own_step n.kept does.0 (given, t.after.kept) does.2 ∙ own);
       }
 
-  turn_on : SubmissionsAreReadSo → CallsKeepTogether → RepeatsKeepTogether → LettersAreReadBack → (t : Turn)
-      → IsWhat n t
+  turn_on : SubmissionsAreReadSo → CallsKeepTogether → FewerLettersKeepTogether → RepeatsKeepTogether
+      → LettersAreReadBack → (t : Turn) → IsWhat n t
       → IsHandedLine letters r t.heard.line
       → AreProcesses (slice_set nodes r t.after) (letters ++ t.sent) (learnt ++ t.learnt)
-  turn_on say calls again back t (inl quiet) handed = quiet_on t quiet
-  turn_on say calls again back t (inr (inl repeats)) handed = again_on again t repeats
-  turn_on say calls again back t (inr (inr takes)) handed = took_on say calls back t takes handed
+  turn_on say calls fewer again back t (inl quiet) handed = quiet_on t quiet
+  turn_on say calls fewer again back t (inr (inl repeats)) handed = again_on again t repeats
+  turn_on say calls fewer again back t (inr (inr takes)) handed = took_on say calls fewer back t takes handed
 
-pub turns : SubmissionsAreReadSo → CallsKeepTogether → RepeatsKeepTogether → LettersAreReadBack → TurnsKeepTogether
-turns say calls again back nodes letters learnt objects r k n t are at is handed =
-    turn_on nodes letters learnt r n are at say calls again back t (what objects n k t is) handed
+pub turns : SubmissionsAreReadSo → CallsKeepTogether → FewerLettersKeepTogether → RepeatsKeepTogether
+    → LettersAreReadBack → TurnsKeepTogether
+turns say calls fewer again back nodes letters learnt objects r k n t are at is handed =
+    turn_on nodes letters learnt r n are at say calls fewer again back t (what objects n k t is) handed
 
 -- ## Restarts
 

@@ -1,5 +1,5 @@
 -- A turn by what is said of its line.
-use Rattle.std.proofs.Common.{◌≡◌, ℕ, true, false, ◌&&◌, [], List, append-nil, filter, take}
+use Rattle.std.proofs.Common.{◌≡◌, ℕ, true, false, ◌&&◌, [], List, append-nil, take}
 use Rattle.std.proofs.Common.{Some, None, Option, refl, sym, ap, subst, ◌∙◌, inl, inr, length}
 use Rattle.std.proofs.Common.{leb}
 use Rattle.std.proofs.Common.{◌==◌, ◌⊎◌, Result, OnOk, IfErr}
@@ -9,9 +9,10 @@ use Rattle.std.proofs.KnownBytes.{Appends-nil}
 use Rattle.la_set.specs.declared.counts.Counts.{Counts}
 use Rattle.la_set.specs.declared.tags.TheConstants.{MAX_TAGS}
 use Rattle.la_set.specs.declared.update.UpdateId.{UpdateId}
-use Rattle.la_node.specs.declared.link.Standing.{Standing}
 use Rattle.la_node.specs.declared.link.Letter.{Letter}
-use Rattle.la_node.specs.Links.{letters_of, is_owed, tells_nothing, wants_standing}
+use Rattle.la_node.specs.declared.link.Links.{Links}
+use Rattle.la_node.specs.declared.link.Sending.{Sending}
+use Rattle.la_node.specs.Links.{letters_sent, noted_all, is_lacked, tells_nothing, wants_standing, bases_of, standing_of}
 use Rattle.la_replica.specs.declared.parcel.Content.{Content}
 use Rattle.la_replica.specs.declared.parcel.Content.TheVariants as content
 use Rattle.la_replica.specs.declared.progress.Progress.{Progress}
@@ -29,7 +30,7 @@ use Rattle.la_wire.specs.Notes.{letters_text}
 use Rattle.la_wire.specs.Questions.{question_in, take_in}
 use Rattle.la_wire.specs.Calls.{WireCall, Submit, Decide, Ask, Tick, Receive, Known, called}
 use Rattle.la_wire.specs.Messages.{said_content, letter_message}
-use Rattle.la_durable.specs.Nodes.{content_of}
+use Rattle.la_durable.specs.Nodes.{content_of, parcel_of}
 use Rattle.la_durable.specs.Inputs.{InputState}
 use Rattle.la_serve.specs.declared.asking.Asking.{Asking}
 use Rattle.la_serve.specs.declared.said.Said.{Said}
@@ -40,7 +41,8 @@ use Rattle.la_serve.specs.Asking.{IsAsking, heard_as}
 use Rattle.la_serve.specs.Heard.{HeardLine, bare, heard_name, heard_call, heard_take}
 use Rattle.la_serve.specs.Io.{Io}
 use Rattle.la_serve.specs.Turns.{Turn, ServerState, OneOf, IsAnsweredTurn, IsTurnHere, own_of}
-use Rattle.la_serve.specs.Turns.{only_writes, only_sends, only_says, IsRequestTurn, IsHeardTurn}
+use Rattle.la_serve.specs.Turns.{only_writes, only_sends, only_says, IsRequestTurn, IsHeardTurn, IsSentAgain}
+use Rattle.la_serve.specs.Turns.{IsTimerTurn, IsMendingTurn, IsStarved, IsKnownOf}
 use Rattle.la_serve.specs.Said.{said_text, is_idle, asks_of, may_be_taken}
 use Rattle.la_serve.specs.Said.{IsSaidToAsk, IsSaidAgain, IsSaidHere, IsSaidToQuestion}
 use Rattle.la_serve.specs.Serving.{OfCall, OfHeard, OfQuestion, OfRequest, OfTake, IsStarvedLine}
@@ -104,55 +106,91 @@ module _ (Wrote : (before after : Option (List ℕ)) → List ℕ → Type 0) (k
       (λ (x : WireCall). IsTurnHere before.objects before.state k x (only_says before.state k heard s)) (sym e)
       (Some s, is, refl))
 
--- what waits is sent once more
+-- what waits is sent once more, or some of it
 module _ (Wrote : (before after : Option (List ℕ)) → List ℕ → Type 0) (k : ℕ) (heard : HeardLine) (input : InputState)
-    (before after : Io) (same : after.state ≡ before.state) (still : after.journal ≡ before.journal) (own : ℕ)
-    (is_own : own ≡ own_of before.state) (e : called input.call ≡ Tick) where
+    (before after : Io) (kept : after.state.kept ≡ before.state.kept) (still : after.journal ≡ before.journal) (own : ℕ)
+    (is_own : own ≡ own_of before.state) (over : Links) (reason : Sending)
+    (is_here : (t : Turn) → t.heard ≡ heard
+    → (IsSentAgain before.state over reason t ⊎ IsStarved before.state k t)
+    → IsTurnHere before.objects before.state k (called input.call) t) where
   sent_taken : (text : List ℕ) → Wrote before.out after.out text
       → (mail : List code.Message) → whole_mail mail ≡ again before.state.kept
       → ((offered : Counts) → AreToldIn before.state.kept offered mail)
-      → text ≡ letters_text (letters_of before.state.known before.state.kept (filter (is_owed before.state.known) mail))
+      → text ≡ letters_text (letters_sent over before.state.kept reason mail)
+      → after.state.known ≡ noted_all over (letters_sent over before.state.kept reason mail)
       → TakesBy Wrote (OfCall heard input IsTurnHere k) TellsNoLine before after
-  sent_taken text w mail whole over is =
-      let letters = letters_of before.state.known before.state.kept (filter (is_owed before.state.known) mail) in
-      let turn = only_sends before.state heard letters in
+  sent_taken text w mail whole told is known =
+      let letters = letters_sent over before.state.kept reason mail in
+      let turn = only_sends before.state heard letters (noted_all over letters) in
       record {
         turn = turn;
-        is = (
-          refl,
-          subst (λ (x : WireCall). IsTurnHere before.objects before.state k x turn) (sym e)
-              (inl (record { mail = mail; whole = whole; over = over; turn = refl })),
-        );
-        now_is = sym same;
+        is =
+            (refl, is_here turn refl (inl (record { mail = mail; whole = whole; over = told; turn = refl })));
+        now_is = λ i. record { kept = sym kept i; known = sym known i };
         wrote = subst (Wrote before.out after.out) is w;
         journal = still ∙ sym (append-nil before.journal);
         tells = refl;
       }
 
-  starved_tick : (w : Why) → w ≡ why.Memory
+  starved_again : (w : Why) → w ≡ why.Memory → after.state.known ≡ before.state.known
       → Wrote before.out after.out (said_text own k heard.name (said.Refused w))
       → TakesBy Wrote (OfCall heard input IsTurnHere k) TellsNoLine before after
-  starved_tick w hungry wrote =
-      said_taken Wrote k heard input before after (said.Refused w) same still own is_own wrote
-      (subst
-      (λ (x : WireCall). IsTurnHere before.objects before.state k x
-      (only_says before.state k heard (said.Refused w))) (sym e)
+  starved_again w hungry known wrote =
+      said_taken Wrote k heard input before after (said.Refused w)
+      (λ i. record { kept = kept i; known = known i }) still own is_own wrote
+      (is_here (only_says before.state k heard (said.Refused w)) refl
       (inr (ap (λ v. only_says before.state k heard (said.Refused v)) hungry)))
 
-  pub tick_taken : (s : Said) → Wrote before.out after.out (said_text own k heard.name s)
-      → IsSaidAgain before.state.known before.state.kept s
+  pub again_taken : (s : Said) → Wrote before.out after.out (said_text own k heard.name s)
+      → IsSaidAgain over before.state.known before.state.kept reason s after.state.known
       → TakesBy Wrote (OfCall heard input IsTurnHere k) TellsNoLine before after
-  tick_taken (said.Lines text) w is = sent_taken text.items w is.0 is.1 is.2 is.3
-  tick_taken (said.Refused w) wrote is = starved_tick w is wrote
+  again_taken (said.Lines text) w is = sent_taken text.items w is.0 is.1 is.2 is.3.0 is.3.1
+  again_taken (said.Refused w) wrote is = starved_again w is.0 is.1 wrote
 
--- what another is known to have changes nothing else
-pub known_taken : (heard : HeardLine) (input : InputState) (k : ℕ) (io : Io) (standing : Standing)
-    → called input.call ≡ Known standing → TakesLine (OfCall heard input IsTurnHere k) TellsNoLine io io
-known_taken heard input k io standing e =
-    takes_only Appends (OfCall heard input IsTurnHere k) io io heard [] (
-      refl,
-      subst (λ (x : WireCall). IsTurnHere io.objects io.state k x (only_writes io.state heard [])) (sym e) refl,
-    )
+-- when the timer has run out
+pub tick_here : (objects : List (ℕ × Kind)) (n : ServerState) (k : ℕ) (call : WireCall) → call ≡ Tick → (t : Turn)
+    → (IsTimerTurn n t ⊎ IsStarved n k t) → IsTurnHere objects n k call t
+tick_here objects n k call e t is = subst (λ (x : WireCall). IsTurnHere objects n k x t) (sym e) is
+
+-- once another said how far it is
+module _ (objects : List (ℕ × Kind)) (n : ServerState) (k : ℕ) (call : WireCall) (r : ℕ) where
+  pub lacked_here : (t : Turn) → IsKnownOf r call → is_lacked n.known r ≡ true
+      → (IsMendingTurn n r t ⊎ IsStarved n k t) → IsTurnHere objects n k call t
+  lacked_here t of lacks is = go call of
+    where
+      go : (c : WireCall) → IsKnownOf r c → IsTurnHere objects n k c t
+      go (Submit replica object op) of = absurd of
+      go (Decide replica commit value) of = absurd of
+      go (Ask replica object query) of = absurd of
+      go Tick of = absurd of
+      go (Receive m) of = absurd of
+      go (Known s) of =
+          subst
+          (λ b. OneOf b (IsMendingTurn n s.from t ⊎ IsStarved n k t) (t ≡ only_writes n t.heard []))
+          (sym (ap (is_lacked n.known) of ∙ lacks))
+          (subst (λ q. IsMendingTurn n q t ⊎ IsStarved n k t) (sym of) is)
+
+  pub known_here : (t : Turn) → IsKnownOf r call → is_lacked n.known r ≡ false → t ≡ only_writes n t.heard []
+      → IsTurnHere objects n k call t
+  known_here t of lacks is = go call of
+    where
+      go : (c : WireCall) → IsKnownOf r c → IsTurnHere objects n k c t
+      go (Submit replica object op) of = absurd of
+      go (Decide replica commit value) of = absurd of
+      go (Ask replica object query) of = absurd of
+      go Tick of = absurd of
+      go (Receive m) of = absurd of
+      go (Known s) of =
+          subst
+          (λ b. OneOf b (IsMendingTurn n s.from t ⊎ IsStarved n k t) (t ≡ only_writes n t.heard []))
+          (sym (ap (is_lacked n.known) of ∙ lacks)) is
+
+-- where nothing is lacking, what another is known to have changes nothing else
+pub known_taken : (heard : HeardLine) (input : InputState) (k : ℕ) (io : Io) (r : ℕ) → IsKnownOf r (called input.call)
+    → is_lacked io.state.known r ≡ false → TakesLine (OfCall heard input IsTurnHere k) TellsNoLine io io
+known_taken heard input k io r of lacks =
+    takes_only Appends (OfCall heard input IsTurnHere k) io io heard []
+    (refl, known_here io.objects io.state k (called input.call) r (only_writes io.state heard []) of lacks refl)
     refl refl (Appends-nil io.out)
 
 -- ## Questions that no call says
@@ -354,6 +392,25 @@ same_content here (content.Offer d) = refl
 same_content here content.Yes = refl
 same_content here (content.No d) = refl
 same_content here (content.Tell d) = refl
+
+same_bases : (c : Content) → bases_of c ≡ bases_of (content_of (said_content c))
+same_bases (content.Offer d) = refl
+same_bases content.Yes = refl
+same_bases (content.No d) = refl
+same_bases (content.Tell d) = refl
+
+-- what answers it answers what it says
+pub standing_as_said : (n : ReplicaState) (l : Letter)
+    → standing_of n l.parcel ≡ standing_of n (parcel_of (letter_message l))
+standing_as_said n l =
+    λ i.
+    record {
+      replicas = length n.votes;
+      from = n.own;
+      to = l.parcel.from;
+      progress = progress_of n;
+      over = same_bases l.parcel.content i;
+    }
 
 -- that is asked of what it says
 pub idle_as_said : (n : ReplicaState) (l : Letter) → wants_standing n l.parcel ≡ is_idle n (letter_message l)

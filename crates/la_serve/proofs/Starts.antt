@@ -34,7 +34,8 @@ use Rattle.la_serve.specs.declared.error.NodeFault.TheVariants as fault
 use Rattle.la_serve.specs.declared.options.Options.{Options}
 use Rattle.la_serve.specs.Turns.{ServerState}
 use Rattle.la_node.specs.declared.link.Links.{Links}
-use Rattle.la_node.specs.Links.{no_links}
+use Rattle.la_node.specs.Links.{links_over}
+use Rattle.la_replica.specs.Progress.{progress_of}
 use Rattle.la_serve.specs.Io.{Io, Streams, Facts, io_with}
 use Rattle.la_serve.specs.Turns.{Turn}
 use Rattle.la_serve.specs.Serving.{ServesAll, ServesSome, ServesClosed, IsServeRefusal}
@@ -120,7 +121,7 @@ stands_on kept known = record { kept = kept; known = known }
 
 module _ {D R W E : Type 0} (f : Facts D R W E) (objects objects2 : List (ℕ × Kind)) (options : Options)
     (disk recovered final : D) (old new : Streams R W E) (between : E) (before : ReplicaState) (now : ServerState)
-    (known : Links) (nothing : known ≡ no_links)
+    (known : Links) (nothing : known ≡ links_over (progress_of before))
     (begun : Begins options (f.seen disk) before (lines (f.seen recovered)))
     (leads : leads_from (at_start options.config options.own) (f.seen recovered) ≡ Some before)
     (recovery : LeavesOnly f.moment f.left_since disk recovered (IsSameOr (f.may_leave disk)

@@ -14,6 +14,10 @@ use Rattle.la_wire.specs.Questions.{question_in, take_in}
 use Rattle.la_durable.specs.CallLines.{is_line}
 use Rattle.la_durable.specs.declared.error.NodeError.TheVariants.{Memory}
 use Rattle.la_node.specs.declared.link.Links.{Links}
+use Rattle.la_node.specs.declared.link.Sending.{Sending}
+use Rattle.la_node.specs.declared.link.Sending.TheVariants as sending
+use Rattle.la_node.specs.Links.{asked_with, is_lacked}
+use Rattle.la_replica.specs.Progress.{progress_of}
 use Rattle.la_serve.specs.declared.said.Said.{Said}
 use Rattle.la_serve.specs.declared.said.Said.TheVariants as said
 use Rattle.la_serve.specs.declared.said.Why.TheVariants.{TooManyTags}
@@ -35,7 +39,7 @@ IsQuiet n t = (t.kept ≡ []) × (t.after.kept ≡ n.kept) × (t.sent ≡ []) ×
 
 -- something is sent again
 abbrev pub Repeats : ServerState → Turn → Type 0
-Repeats n t = (known : Links) × IsSentAgain (hearing known n) t
+Repeats n t = (known over : Links) × (why : Sending) × IsSentAgain (hearing known n) over why t
 
 -- what a line calls for, as it says it, or a remove in place of a take
 abbrev pub IsHeardSo : HeardLine → Type 0
@@ -86,13 +90,20 @@ module _ (objects : List (ℕ × Kind)) (n : ServerState) (known : Links) (k : �
       said_what objects n known k t so (Decide replica commit value) stands says o is
   here_what (Ask replica object query) stands says (o, said, is) =
       said_what objects n known k t so (Ask replica object query) stands says o is
-  here_what Tick stands says (inl again) = inr (inl (known, again))
+  here_what Tick stands says (inl again) =
+      inr (inl (known, asked_with known (progress_of n.kept), sending.Timer, again))
   here_what Tick stands says (inr is) =
       inl (quiet n t (turn_refused (hearing known n) k t.heard Memory) is (refl, refl, refl, refl))
   here_what (Receive message) stands says (o, said, is) =
       said_what objects n known k t so (Receive message) stands says o is
-  here_what (Known standing) stands says is =
-      inl (quiet n t (only_writes (hearing known n) t.heard []) is (refl, refl, refl, refl))
+  here_what (Known s) stands says is = elim (one_of (is_lacked known s.from) is) [
+    | inl lacks ↦ elim lacks [
+      | inl again ↦ inr (inl (known, known, sending.Lack s.from, again))
+      | inr starved ↦
+          inl (quiet n t (turn_refused (hearing known n) k t.heard Memory) starved (refl, refl, refl, refl))
+    ]
+    | inr none ↦ inl (quiet n t (only_writes (hearing known n) t.heard []) none (refl, refl, refl, refl))
+  ]
 
 module _ (objects : List (ℕ × Kind)) (n : ServerState) (k : ℕ) (t : Turn) where
   says_what : IsHeardSo t.heard → SaysCall objects n k t → IsWhat n t

@@ -10,7 +10,8 @@ use Rattle.la_wire.specs.Questions.{question_in, take_in}
 use Rattle.la_durable.specs.declared.error.NodeError.{NodeError}
 use Rattle.la_durable.specs.declared.error.NodeError.TheVariants.{Memory}
 use Rattle.la_node.specs.declared.link.Links.{Links}
-use Rattle.la_node.specs.Links.{letters_of}
+use Rattle.la_node.specs.declared.link.Sending.TheVariants as sending
+use Rattle.la_node.specs.Links.{letters_sent}
 use Rattle.la_node.specs.Steps.{Given}
 use Rattle.la_journal.specs.Staging.{kept_unless}
 use Rattle.la_durable.specs.Nodes.{acts, leaves_be}
@@ -21,7 +22,7 @@ use Rattle.la_serve.specs.Heard.{HeardLine, unheard, bare, heard_name}
 use Rattle.la_serve.specs.Names.{refusal_name}
 use Rattle.la_serve.specs.Turns.{Turn, only_writes, turn_refused, faulty, call_text, own_of, is_note, OneOf, noted_by}
 use Rattle.la_serve.specs.Turns.{ServerState, is_elsewhere, IsKeptTurn, IsTurnHere, IsTurnOf, IsRequestTurn}
-use Rattle.la_serve.specs.Turns.{IsShortTurn}
+use Rattle.la_serve.specs.Turns.{IsShortTurn, IsNoted}
 use Rattle.la_serve.specs.Turns.{IsTurn}
 use Rattle.la_serve.specs.Io.{Io}
 use Rattle.la_serve.specs.Serving.{OfCall, TakesBy, TellsNoLine}
@@ -76,7 +77,8 @@ module _ (Wrote : (before after : Option (List ℕ)) → List ℕ → Type 0) (k
       → after.journal
       ≡ before.journal ++ kept_unless (leaves_be before.state.kept after.state.kept (called input.call) given)
       heard.call
-      → after.state.known ≡ before.state.known → (text : List ℕ)
+      → IsNoted before.state.known (letters_sent before.state.known after.state.kept sending.Call given.mail)
+      after.state.known → (text : List ℕ)
       → text ≡ call_text (length (updates before.state.kept.view)) before.state.known after.state.kept
       (called input.call) heard.name given
       → Wrote before.out after.out text → TakesBy Wrote (OfKept heard input k) TellsNoLine before after
@@ -84,7 +86,7 @@ module _ (Wrote : (before after : Option (List ℕ)) → List ℕ → Type 0) (k
     turn = record {
       heard = heard;
       text = text;
-      sent = letters_of before.state.known after.state.kept given.mail;
+      sent = letters_sent before.state.known after.state.kept sending.Call given.mail;
       learnt = noted_by before.state.kept.own (called input.call) given;
       kept = kept_unless (leaves_be before.state.kept after.state.kept (called input.call) given) heard.call;
       told = [];

@@ -31,7 +31,8 @@ use Rattle.la_replica.specs.Bases.{AreToldIn}
 use Rattle.la_replica.specs.Progress.{progress_of}
 use Rattle.la_replica.specs.ReplicaState.{ReplicaState}
 use Rattle.la_node.specs.declared.link.Links.{Links}
-use Rattle.la_node.specs.Links.{letters_of, is_owed, standing_of, wants_standing}
+use Rattle.la_node.specs.declared.link.Sending.{Sending}
+use Rattle.la_node.specs.Links.{letters_sent, noted_all, standing_of, wants_standing}
 use Rattle.la_node.specs.Nodes.{returned_by}
 use Rattle.la_wire.specs.declared.questions.Question.{Question}
 use Rattle.la_wire.specs.declared.questions.Question.TheVariants.{Tags, Updates, Update as UpdateOf, Status}
@@ -192,13 +193,13 @@ IsSaidToQuestion objects n known h (Status replica) s = IsSaidStatus n known h.n
 
 -- ## Ticks and messages
 
--- what waits for an answer, once more, but for what is known to be known
-abbrev pub IsSaidAgain : (known : Links) → ReplicaState → Said → Type 0
-IsSaidAgain known n s =
-    IsSaidText
-    (λ text.
+-- of what waits for an answer some, once more, as letters over these links, which note them; or there was no memory, and
+-- then nothing is noted
+abbrev pub IsSaidAgain : (over before : Links) → ReplicaState → Sending → Said → (after : Links) → Type 0
+IsSaidAgain over before n why (said.Lines text) after =
     (mail : List code.Message) × (whole_mail mail ≡ again n) × ((offered : Counts) → AreToldIn n offered mail)
-    × (text ≡ letters_text (letters_of known n (filter (is_owed known) mail)))) s
+    × (text.items ≡ letters_text (letters_sent over n why mail)) × (after ≡ noted_all over (letters_sent over n why mail))
+IsSaidAgain over before n why (said.Refused w) after = (w ≡ why.Memory) × (after ≡ before)
 
 -- a message over more than this node has, or that brings no news
 abbrev pub is_idle : ReplicaState → WireMessage → Bool
@@ -208,7 +209,7 @@ is_idle n m = wants_standing n (parcel_of m)
 abbrev pub IsSaidOfMessage : ReplicaState → WireMessage → Option Said → Type 0
 IsSaidOfMessage n m None = is_idle n m ≡ false
 IsSaidOfMessage n m (Some s) =
-    (is_idle n m ≡ true) × IsSaidText (λ text. text ≡ known_line (standing_of n m.from)) s
+    (is_idle n m ≡ true) × IsSaidText (λ text. text ≡ known_line (standing_of n (parcel_of m))) s
 
 -- ## Submissions
 

@@ -12,7 +12,7 @@ use Rattle.la_journal.specs.Playing.{rest_in, IsNotPlayed}
 use Rattle.la_journal.specs.Records.{parts}
 use Rattle.la_journal.specs.declared.recovery.Unplayed.{Unplayed}
 use Rattle.la_node.specs.declared.error.WorldError.TheVariants as world
-use Rattle.la_node.specs.Links.{no_links}
+use Rattle.la_node.specs.Links.{links_over}
 use Rattle.la_node.specs.Nodes.{IsStartRefusal}
 use Rattle.la_durable.specs.CallLines.{call_line}
 use Rattle.la_durable.specs.Nodes.{empty_shelf, step}
@@ -52,7 +52,7 @@ TellsOfRun f disk unsaid old new lines =
 
 -- a node that was started knows nothing of others
 abbrev pub newly_started : ReplicaState → ServerState
-newly_started n = record { kept = n; known = no_links }
+newly_started n = record { kept = n; known = links_over (progress_of n) }
 
 -- ## The lines from which a run goes on
 

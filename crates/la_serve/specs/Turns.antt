@@ -1,6 +1,6 @@
 -- What a line comes to: what is written of it, what the journal gains, and the state after it.
 use Rattle.std.specs.Prelude.{◌≡◌, ◌⊎◌, ℕ, ◌-◌, nat_lt, nat_le, ◌==◌, Bool, true, false, not, ◌||◌}
-use Rattle.std.specs.Prelude.{List, [], ◌∷◌, ◌++◌, length, filter, Option, Some, None, if◌then◌else◌}
+use Rattle.std.specs.Prelude.{List, [], ◌∷◌, ◌++◌, length, Option, Some, None, if◌then◌else◌}
 use Rattle.la_set.specs.declared.counts.Counts.{Counts}
 use Rattle.la_set.specs.declared.tags.TheConstants.{MAX_TAGS}
 use Rattle.la_set.specs.Histories.{Histories, updates}
@@ -29,7 +29,10 @@ use Rattle.la_durable.specs.declared.error.NodeError.TheVariants.{Memory}
 use Rattle.la_durable.specs.CallLines.{is_line}
 use Rattle.la_node.specs.declared.link.Letter.{Letter}
 use Rattle.la_node.specs.declared.link.Links.{Links}
-use Rattle.la_node.specs.Links.{known_with, letters_of, is_owed}
+use Rattle.la_node.specs.declared.link.Sending.{Sending}
+use Rattle.la_node.specs.declared.link.Sending.TheVariants as sending
+use Rattle.la_node.specs.declared.link.Standing.{Standing}
+use Rattle.la_node.specs.Links.{known_with, answered_with, asked_with, is_lacked, letters_sent, noted_all}
 use Rattle.la_node.specs.Steps.{Given, given_of}
 use Rattle.la_durable.specs.Nodes.{acts, leaves_be}
 use Rattle.la_journal.specs.Staging.{kept_unless}
@@ -112,7 +115,7 @@ abbrev pub call_text : (before : ℕ) → (known : Links) → (after : ReplicaSt
     → List ℕ
 call_text before known after call name given =
     taken_text after call name ++ receipt_text before after call given
-    ++ letters_text (letters_of known after given.mail)
+    ++ letters_text (letters_sent known after sending.Call given.mail)
 
 -- ## Lines that are passed over
 
@@ -132,6 +135,10 @@ is_elsewhere n (Known s) = not (s.replicas == length n.votes) || not (s.to == n.
 
 -- ## What is heard of others
 
+-- how far another is: in answer to a letter of this node, or of another one
+abbrev pub known_by : ReplicaState → Links → Standing → Links
+known_by n known s = if s.to == n.own then answered_with known s else known_with known s.from s.progress
+
 -- how far the replica is that a call comes from, where it is one of this group
 abbrev pub known_after : ReplicaState → Links → WireCall → Links
 known_after n known (Submit replica object op) = known
@@ -139,9 +146,13 @@ known_after n known (Decide replica commit value) = known
 known_after n known (Ask replica object query) = known
 known_after n known Tick = known
 known_after n known (Receive m) =
-    if m.replicas == length n.votes then known_with known (progress_of n) m.from m.progress else known
-known_after n known (Known s) =
-    if s.replicas == length n.votes then known_with known (progress_of n) s.from s.progress else known
+    if m.replicas == length n.votes then known_with known m.from m.progress else known
+known_after n known (Known s) = if s.replicas == length n.votes then known_by n known s else known
+
+-- a call by which this replica says how far it is
+abbrev pub IsKnownOf : (replica : ℕ) → WireCall → Type 0
+IsKnownOf r (Known s) = s.from ≡ r
+IsKnownOf r call = ⊥
 
 abbrev pub after_hearing : ServerState → WireCall → ServerState
 after_hearing n call = record { kept = n.kept; known = known_after n.kept n.known call }
@@ -169,9 +180,9 @@ abbrev pub only_writes : ServerState → HeardLine → (text : List ℕ) → Tur
 only_writes n heard text =
     record { heard = heard; text = text; sent = []; learnt = []; kept = []; told = []; after = n }
 
--- or only these letters
-abbrev pub only_sends : ServerState → HeardLine → List Letter → Turn
-only_sends n heard letters =
+-- or only these letters, of which note is taken
+abbrev pub only_sends : ServerState → HeardLine → List Letter → (noted : Links) → Turn
+only_sends n heard letters noted =
     record {
       heard = heard;
       text = letters_text letters;
@@ -179,7 +190,7 @@ only_sends n heard letters =
       learnt = [];
       kept = [];
       told = [];
-      after = n;
+      after = record { kept = n.kept; known = noted };
     }
 
 -- or this is said, of line k
@@ -212,13 +223,17 @@ IsOutcome n after call line journal_before journal_after (kept.Taken given) =
 IsOutcome n after call line journal_before journal_after (kept.Refused why) =
     (IsForMemory why ⊎ (acts n call ≡ None)) × (after ≡ n) × (journal_after ≡ journal_before)
 
+-- letters are noted; or there was no memory to write them
+abbrev pub IsNoted : (before : Links) → List Letter → (after : Links) → Type 0
+IsNoted before letters after = (after ≡ noted_all before letters) ⊎ (after ≡ before)
+
 -- a call was taken: its line is in the journal, if it changed anything
 pub record IsCallTaken (n : ServerState) (call : WireCall) (t : Turn) : Type 0 where
   pub given : Given
   pub acted : acts n.kept call ≡ Some (given, t.after.kept)
-  pub known : t.after.known ≡ n.known
+  pub known : IsNoted n.known t.sent t.after.known
   pub written : t.text ≡ call_text (length (updates n.kept.view)) n.known t.after.kept call t.heard.name given
-  pub sent : t.sent ≡ letters_of n.known t.after.kept given.mail
+  pub sent : t.sent ≡ letters_sent n.known t.after.kept sending.Call given.mail
   pub learnt : t.learnt ≡ noted_by n.kept.own call given
   pub journal : t.kept ≡ kept_unless (leaves_be n.kept t.after.kept call given) t.heard.call
   pub silent : t.told ≡ []
@@ -236,12 +251,23 @@ IsKeptTurn n k call t = IsCallTaken n call t ⊎ IsRefused n k call t
 abbrev pub IsStarved : ServerState → (k : ℕ) → Turn → Type 0
 IsStarved n k t = t ≡ turn_refused n k t.heard Memory
 
--- what waits for an answer is sent once more, but for what is known to be known
-pub record IsSentAgain (n : ServerState) (t : Turn) : Type 0 where
+-- of what waits for an answer some is sent once more, as letters over these links
+pub record IsSentAgain (n : ServerState) (links : Links) (why : Sending) (t : Turn) : Type 0 where
   pub mail : List code.Message
   pub whole : whole_mail mail ≡ again n.kept
   pub over : (offered : Counts) → AreToldIn n.kept offered mail
-  pub turn : t ≡ only_sends n t.heard (letters_of n.known n.kept (filter (is_owed n.known) mail))
+  pub turn :
+      t
+      ≡ only_sends n t.heard (letters_sent links n.kept why mail)
+      (noted_all links (letters_sent links n.kept why mail))
+
+-- once the timer has run out: who is not heard is asked how far it is
+abbrev pub IsTimerTurn : ServerState → Turn → Type 0
+IsTimerTurn n t = IsSentAgain n (asked_with n.known (progress_of n.kept)) sending.Timer t
+
+-- once a replica said that it lacks something: that is told anew
+abbrev pub IsMendingTurn : ServerState → (replica : ℕ) → Turn → Type 0
+IsMendingTurn n r t = IsSentAgain n n.known (sending.Lack r) t
 
 -- one of two
 abbrev pub OneOf : Bool → (A B : Type 0) → Type 0
@@ -263,9 +289,10 @@ abbrev pub IsTurnHere : List (ℕ × Kind) → ServerState → (k : ℕ) → Wir
 IsTurnHere objects n k (Submit replica object op) t = IsAnsweredTurn objects n k (Submit replica object op) t
 IsTurnHere objects n k (Decide replica commit value) t = IsAnsweredTurn objects n k (Decide replica commit value) t
 IsTurnHere objects n k (Ask replica object query) t = IsAnsweredTurn objects n k (Ask replica object query) t
-IsTurnHere objects n k Tick t = IsSentAgain n t ⊎ IsStarved n k t
+IsTurnHere objects n k Tick t = IsTimerTurn n t ⊎ IsStarved n k t
 IsTurnHere objects n k (Receive m) t = IsAnsweredTurn objects n k (Receive m) t
-IsTurnHere objects n k (Known standing) t = t ≡ only_writes n t.heard []
+IsTurnHere objects n k (Known s) t =
+    OneOf (is_lacked n.known s.from) (IsMendingTurn n s.from t ⊎ IsStarved n k t) (t ≡ only_writes n t.heard [])
 
 -- a call that is for another node is passed over
 abbrev pub IsTurnOf : List (ℕ × Kind) → ServerState → (k : ℕ) → WireCall → Turn → Type 0

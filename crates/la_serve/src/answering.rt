@@ -10,6 +10,7 @@ ghost use Rattle.la_serve.specs.Asking.{IsAsking};
 ghost use Rattle.la_serve.specs.Heard.{bare};
 ghost use Rattle.la_serve.specs.Said.{said_text, may_be_taken};
 ghost use Rattle.la_serve.specs.Turns.{known_after, is_note, is_elsewhere, IsKeptTurn, IsTurnOf, IsCallTurn, IsTurnHere};
+ghost use Rattle.la_serve.specs.Turns.{IsKnownOf};
 ghost use Rattle.la_serve.specs.Io.{io_of, TakesLines, OnlyStages};
 ghost use Rattle.la_serve.specs.Serving.{OfLine, OfAsked, OfHeardAs, OfQuestion, OfRequested, OfTaking, IsStarvedLine};
 ghost use Rattle.la_serve.specs.Serving.{TakesLine, Breaks, TellsNoLine};
@@ -27,7 +28,7 @@ use crate::{NodeFault, Server};
 use la_durable::{Input, NodeMachine};
 use la_io::{Listener, WriteFailed, write_lines};
 use la_journal::Disk;
-use la_node::Links;
+use la_node::{Links, Sending};
 use la_object::Replicated;
 use la_set::{Op, Tags};
 use la_wire::{
@@ -73,10 +74,14 @@ fn hear(links: &mut Links, machine: &NodeMachine, call: &Call)
     let replicas = machine.node.replicas();
     match call {
         Call::Receive(letter) if letter.replicas == replicas => {
-            links.hear(letter.parcel.from, letter.progress, machine.node.progress());
+            links.hear(letter.parcel.from, letter.progress);
         }
         Call::Known(standing) if standing.replicas == replicas => {
-            links.hear(standing.from, standing.progress, machine.node.progress());
+            if standing.to == machine.node.own() {
+                links.hear_answer(standing);
+            } else {
+                links.hear(standing.from, standing.progress);
+            }
         }
         _ => {}
     }
@@ -105,22 +110,24 @@ fn take<W: Write, D: Disk, B: Replicated>(
     let own = node.durable.machine.node.own();
     let before = node.durable.machine.node.view().len();
     match keep(alloc, node, input) {
-        Kept::Taken(given) => match text_of(
-            alloc,
-            &node.durable.machine,
-            links,
-            before,
-            input.call(),
-            asking.name,
-            &given,
-        ) {
-            Ok(text) => {
-                count_mail(&mut tally.sent, &given.done.mail);
-                write_lines(output, &text)?;
-                Ok(())
+        Kept::Taken(given) => {
+            count_mail(&mut tally.sent, links, &given.done.mail, Sending::Call);
+            match text_of(
+                alloc,
+                &node.durable.machine,
+                links,
+                before,
+                input.call(),
+                asking.name,
+                &given,
+            ) {
+                Ok(text) => {
+                    write_lines(output, &text)?;
+                    Ok(())
+                }
+                Err(_) => Err(NodeFault::Memory),
             }
-            Err(_) => Err(NodeFault::Memory),
-        },
+        }
         Kept::Refused(refusal) => {
             count_refused(tally);
             refuse(
@@ -189,6 +196,38 @@ fn take_or_say<W: Write, D: Disk, B: Replicated>(
     }
 }
 
+// How far another replica is: where it lacks what a letter was told over, it is told that.
+fn mend<W: Write, D: Disk, B: Replicated>(
+    alloc: Global,
+    server: &mut Server<D, B>,
+    asking: Asking<'_>,
+    input: &Input,
+    replica: u8,
+    output: &mut W,
+) -> Result<(), NodeFault>
+    requires takes { TakesLines server.old }
+    requires short { length asking.name.now ≤ MAX_NAME }
+    requires known { IsKnownOf replica (called input.now.call) }
+    ensures ok { OnOk result (TakesLine (OfAsked asking.entry input.now IsTurnHere) TellsNoLine (io_of (W.contents output.old) server.old) (io_of (W.contents output.new) server.new)) }
+    ensures err { IfErr result (Breaks (OfAsked asking.entry input.now IsTurnHere) TellsNoLine (io_of (W.contents output.old) server.old) (io_of (W.contents output.new) server.new)) }
+    ensures stages { OnlyStages server.old server.new }
+{
+    let Server {
+        node,
+        links,
+        tally,
+        ..
+    } = server;
+    if !links.is_lacked(replica) {
+        return Ok(());
+    }
+    let machine = &node.durable.machine;
+    let over = *links;
+    let said = said_again(alloc, machine, links, over, Sending::Lack(replica), &mut tally.sent);
+    put(output, tally, machine.node.own(), asking, &said)?;
+    Ok(())
+}
+
 // A call that is not passed over.
 fn call_here<W: Write, D: Disk, B: Replicated>(
     alloc: Global,
@@ -224,11 +263,12 @@ fn call_here<W: Write, D: Disk, B: Replicated>(
                 ..
             } = server;
             let machine = &node.durable.machine;
-            let said = said_again(alloc, machine, links, &mut tally.sent);
+            let asked = links.asked(machine.node.progress());
+            let said = said_again(alloc, machine, links, asked, Sending::Timer, &mut tally.sent);
             put(output, tally, machine.node.own(), asking, &said)?;
             Ok(())
         }
-        Call::Known(_) => Ok(()),
+        Call::Known(standing) => mend(alloc, server, asking, input, standing.from, output),
         Call::Submit { .. } => take_or_say(alloc, server, asking, input, output),
         Call::Decide { .. } => take_or_say(alloc, server, asking, input, output),
         Call::Receive(_) => take_or_say(alloc, server, asking, input, output),

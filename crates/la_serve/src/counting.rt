@@ -1,5 +1,5 @@
 // What a process counts of messages, refusals and syncs, for whoever asks how it stands: no contract says what.
-use la_node::Links;
+use la_node::{Links, Sending};
 use la_replica::{Body, Content, Mail};
 use la_wire::{Call, Kinds, Tally};
 
@@ -30,17 +30,10 @@ fn count_body(kinds: &mut Kinds, body: &Body) {
     }
 }
 
-/// Mail was sent.
-pub fn count_mail(kinds: &mut Kinds, mail: &Mail) {
+/// Of some mail that was sent which these links choose for this.
+pub fn count_mail(kinds: &mut Kinds, links: &Links, mail: &Mail, why: Sending) {
     for message in mail.all() {
-        count_body(kinds, &message.body);
-    }
-}
-
-/// Mail was sent again, but for what is known to be known.
-pub fn count_owed(kinds: &mut Kinds, links: &Links, mail: &Mail) {
-    for message in mail.all() {
-        if links.is_owed(message) {
+        if links.is_chosen(why, message) {
             count_body(kinds, &message.body);
         }
     }

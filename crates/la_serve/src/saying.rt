@@ -75,16 +75,25 @@ pub fn said_waiting(alloc: Global, machine: &NodeMachine, after: UpdateId, name:
     }
 }
 
-/// What waits for an answer, once more, and it is counted.
-pub fn said_again(alloc: Global, machine: &NodeMachine, links: &Links, sent: &mut Kinds) -> Said
-    ensures { IsSaidAgain links.now (kept_by machine.now) result }
+/// Of what waits for an answer some, once more, as letters over these links, which note it, and it is counted.
+pub fn said_again(
+    alloc: Global,
+    machine: &NodeMachine,
+    links: &mut Links,
+    over: Links,
+    why: Sending,
+    sent: &mut Kinds,
+) -> Said
+    ensures { IsSaidAgain over links.old (kept_by machine.now) why result links.new }
 {
     let Ok(mail) = machine.node.again() else {
         return Said::Refused(Why::Memory);
     };
-    match mail_text(alloc, links, &machine.node, &mail) {
+    let mut noted = over;
+    match mail_text(alloc, &over, &mut noted, &machine.node, &mail, why) {
         Ok(text) => {
-            count_owed(sent, links, &mail);
+            count_mail(sent, &over, &mail, why);
+            *links = noted;
             Said::Lines(text)
         }
         Err(_) => Said::Refused(Why::Memory),
@@ -98,7 +107,7 @@ fn said_back(alloc: Global, machine: &NodeMachine, letter: &Letter) -> Option<Sa
     if !is_idle(machine, letter) {
         return None;
     }
-    match standing_text(alloc, &machine.node.standing(letter.parcel.from)) {
+    match standing_text(alloc, &machine.node.standing(&letter.parcel)) {
         Ok(text) => Some(Said::Lines(text)),
         Err(_) => Some(Said::Refused(Why::Memory)),
     }

@@ -290,10 +290,11 @@ fn start<R: Read, W: Write + Drop, E: Listener, D: Disk, B: Replicated>(
             };
             tell_cut(cut, errors);
             tell_unsaid(unsaid, errors);
+            let links = Links::over(durable.machine.node.progress());
             let mut server = Server {
                 node: Staged::new(alloc, durable),
                 shelf,
-                links: Links::new(),
+                links,
                 tally: Tally::none(),
             };
             let served = serve(alloc, &mut server, input, out, errors);

@@ -1,9 +1,10 @@
 // What a node writes for one call.
-ghost use Rattle.std.specs.Prelude.{◌≡◌, ◌++◌, IfOk, OnOk, filter};
+ghost use Rattle.std.specs.Prelude.{◌≡◌, ◌++◌, IfOk, OnOk, OnErr};
 ghost use Rattle.la_replica.specs.Steps.{learnt_in};
 ghost use Rattle.la_wire.specs.Calls.{called};
 ghost use Rattle.la_node.specs.Steps.{given_of};
-ghost use Rattle.la_node.specs.Links.{letter_of, letters_of, is_owed};
+ghost use Rattle.la_node.specs.declared.link.Sending.TheVariants as sending;
+ghost use Rattle.la_node.specs.Links.{letter_of, letters_sent, noted_with, noted_all};
 ghost use Rattle.la_wire.specs.Notes.{submitted_note, answered_note, message_line, letters_text, known_line};
 ghost use Rattle.la_wire.specs.Notes.{proposed_note, waiting_note, tags_note, update_note, updates_note};
 ghost use Rattle.la_wire.specs.Status.{status_note};
@@ -14,7 +15,7 @@ ghost use Rattle.la_serve.specs.Turns.{receipt_text, call_text};
 
 use la_commit::Outcome;
 use la_durable::NodeMachine;
-use la_node::{Links, Node, Received, Standing};
+use la_node::{Links, Node, Received, Sending, Standing};
 use la_object::{Answer, Counter};
 use la_replica::{Mail, Message};
 use la_set::{Counts, Tags, Update, UpdateId, UpdateSet};
@@ -118,68 +119,67 @@ fn put_receipt(
     }
 }
 
-// Writes a message as a letter over what is known of its receiver.
+// Writes a message as a letter over these links, and notes it.
 fn put_message(
     out: &mut Vec<u8>,
     links: &Links,
+    noted: &mut Links,
     node: &Node<Counter>,
     message: &Message,
 ) -> Result<(), AllocError>
-    ensures { OnOk result (out.new.items ≡ out.old.items ++ message_line (letter_of links.now node.now.replica message.now)) }
+    ensures text { OnOk result (out.new.items ≡ out.old.items ++ message_line (letter_of links.now node.now.replica message.now)) }
+    ensures noted { OnOk result (noted.new ≡ noted_with noted.old (letter_of links.now node.now.replica message.now)) }
 {
     let letter = links.letter(node, message.copy()?)?;
-    put_letter_line(out, &letter)
-}
-
-// Writes mail so, in order.
-fn put_mail(
-    out: &mut Vec<u8>,
-    links: &Links,
-    node: &Node<Counter>,
-    mail: &Mail,
-) -> Result<(), AllocError>
-    ensures { OnOk result (out.new.items ≡ out.old.items ++ letters_text (letters_of links.now node.now.replica mail.now)) }
-{
-    for message in mail.all() {
-        put_message(out, links, node, message)?;
-    }
+    put_letter_line(out, &letter)?;
+    noted.note(&letter);
     Ok(())
 }
 
-// The same of mail that is sent again, but for what is known to be known.
-fn put_owed(
+// Writes so what of some mail is sent, in order.
+fn put_mail(
     out: &mut Vec<u8>,
     links: &Links,
+    noted: &mut Links,
     node: &Node<Counter>,
     mail: &Mail,
+    why: Sending,
 ) -> Result<(), AllocError>
-    ensures { OnOk result (out.new.items ≡ out.old.items
-        ++ letters_text (letters_of links.now node.now.replica (filter (is_owed links.now) mail.now))) }
+    ensures text { OnOk result (out.new.items ≡ out.old.items
+        ++ letters_text (letters_sent links.now node.now.replica why mail.now)) }
+    ensures noted { OnOk result (noted.new ≡ noted_all noted.old (letters_sent links.now node.now.replica why mail.now)) }
 {
     for message in mail.all() {
-        if links.is_owed(message) {
-            put_message(out, links, node, message)?;
+        if links.is_chosen(why, message) {
+            put_message(out, links, noted, node, message)?;
         }
     }
     Ok(())
 }
 
-/// What is written for a call that was accepted, of a request of this name, once the view had so many updates.
+/// What is written for a call that was accepted, of a request of this name, once the view had so many updates. Its
+/// letters are noted.
 pub fn text_of(
     alloc: Global,
     machine: &NodeMachine,
-    links: &Links,
+    links: &mut Links,
     before: usize,
     call: &Call,
     name: &str,
     given: &Received,
 ) -> Result<Vec<u8>, AllocError>
-    ensures { IfOk result (λ text. text.items ≡ call_text before links.now (kept_by machine.now) (called call.now) name.now (given_of given.now)) }
+    ensures text { IfOk result (λ text. text.items ≡ call_text before links.old (kept_by machine.now) (called call.now) name.now (given_of given.now)) }
+    ensures noted { OnOk result (links.new ≡ noted_all links.old (letters_sent links.old (kept_by machine.now) sending.Call (given_of given.now).mail)) }
+    ensures err { OnErr result (links.new ≡ links.old) }
 {
+    let over = *links;
+    let mut noted = over;
     let mut out = Vec::with_capacity(alloc, LINE)?;
-    put_taken(&mut out, call, name, &machine.node)?;
-    put_receipt(&mut out, &machine.node, before, call, given)?;
-    put_mail(&mut out, links, &machine.node, &given.done.mail)?;
+    let node = &machine.node;
+    put_taken(&mut out, call, name, node)?;
+    put_receipt(&mut out, node, before, call, given)?;
+    put_mail(&mut out, &over, &mut noted, node, &given.done.mail, Sending::Call)?;
+    *links = noted;
     Ok(out)
 }
 
@@ -302,18 +302,20 @@ pub fn answer_text(
     Ok(out)
 }
 
-/// What is written of mail when the timer has run out.
+/// What is written of mail that is sent again, which is noted.
 pub fn mail_text(
     alloc: Global,
     links: &Links,
+    noted: &mut Links,
     node: &Node<Counter>,
     mail: &Mail,
+    why: Sending,
 ) -> Result<Vec<u8>, AllocError>
-    ensures { IfOk result (λ text. text.items
-        ≡ letters_text (letters_of links.now node.now.replica (filter (is_owed links.now) mail.now))) }
+    ensures text { IfOk result (λ text. text.items ≡ letters_text (letters_sent links.now node.now.replica why mail.now)) }
+    ensures noted { OnOk result (noted.new ≡ noted_all noted.old (letters_sent links.now node.now.replica why mail.now)) }
 {
     let mut out = Vec::new(alloc);
-    put_owed(&mut out, links, node, mail)?;
+    put_mail(&mut out, links, noted, node, mail, why)?;
     Ok(out)
 }
 

@@ -14,10 +14,10 @@ use Rattle.la_wire.specs.Joined.{joined_by}
 use Rattle.la_wire.specs.Readings.{◌>>=◌, first_number}
 use Rattle.la_wire.specs.Updates.{update_text}
 use Rattle.la_wire.specs.Messages.{WireMessage, WireBody, Offer, Yes, No, Tell}
-use Rattle.la_wire.specs.MessageLines.{kind_text, has_word, view_word, base_word, counts_text, progress_words}
+use Rattle.la_wire.specs.MessageLines.{kind_text, has_word, view_word, base_word, counts_text, progress_words, over_words}
 use Rattle.la_wire.specs.MessageLines.{kind_in, base_words, carried, head_words, message_text, kind_word}
 use Rattle.la_wire.specs.MessageLines.{message_header, progress_in, base_on, body_in, message_at, message_in, letter}
-use Rattle.la_wire.specs.MessageLines.{message_of_parts, line_message, standing_words, standing_in}
+use Rattle.la_wire.specs.MessageLines.{message_of_parts, line_message, standing_words, standing_in, over_in}
 use Rattle.la_wire.specs.Writable.{IsUpdateFrom, IsBodyFrom, IsCounts, IsBody, IsMessage, IsTypedMessage, IsStanding}
 use Rattle.la_wire.proofs.Decimals.{number-decimal, decimal-plain, is_plain, IsPlain}
 use Rattle.la_wire.proofs.Joins.{words-back, words-part, parts-back}
@@ -83,7 +83,7 @@ body-left m some few is =
 -- ## How far a replica is
 
 pub standing-back : (s : Standing) → IsStanding s → standing_in (standing_words s) ≡ Ok s
-unfolding standing_in progress_in
+unfolding standing_in progress_in over_in
 standing-back s is =
     rw (
       number-decimal 1 8 s.replicas is.some is.few (omega arith),
@@ -91,6 +91,8 @@ standing-back s is =
       number-decimal 0 u8_max s.to (omega arith) is.to (omega arith),
       counts-back s.progress.accepted is.accepted,
       counts-back s.progress.view is.view,
+      counts-back s.over.accepted is.offer,
+      counts-back s.over.view is.tell,
     ) refl
 
 kind-back : (k : Kind) → kind_word (kind_text k) ≡ Some k
@@ -156,15 +158,22 @@ behind-plain m is =
     (and-number m.from w2 (omega (arith, is.from)) (and-number m.to w3 (omega (arith, is.to))
     (and-number m.instance w4 (omega (arith, is.instance)) (and-number m.ballot w5 (omega (arith, is.ballot)) (progress-plain m is)))))
 
+over-plain : (p : Progress) → IsCounts p.accepted → IsCounts p.view → All IsPlain (over_words p)
+over-plain p offer tell =
+    labelled (kind_text kind.Offer) p.accepted (kind_text kind.Tell ∷ counts_text p.view ∷ []) (kind-plain kind.Offer)
+    offer (labelled (kind_text kind.Tell) p.view [] (kind-plain kind.Tell) tell (All-nil IsPlain))
+
 pub standing-plain : (s : Standing) → IsStanding s → All IsPlain (standing_words s)
 standing-plain s is =
-    let words : List (List ℕ) = progress_words s.progress in
+    let over : List (List ℕ) = over_words s.over in
+    let words : List (List ℕ) = progress_words s.progress ++ over in
     and-number s.replicas (decimal s.from ∷ decimal s.to ∷ words) (omega (arith, is.few))
     (and-number s.from (decimal s.to ∷ words) (omega (arith, is.from))
     (and-number s.to words (omega (arith, is.to))
-    (labelled has_word s.progress.accepted (view_word ∷ counts_text s.progress.view ∷ [])
+    (labelled has_word s.progress.accepted (view_word ∷ counts_text s.progress.view ∷ over)
     (AllPass-from_list_all is_plain has_word refl) is.accepted
-    (labelled view_word s.progress.view [] (AllPass-from_list_all is_plain view_word refl) is.view (All-nil IsPlain)))))
+    (labelled view_word s.progress.view over (AllPass-from_list_all is_plain view_word refl) is.view
+    (over-plain s.over is.offer is.tell)))))
 
 pub head-plain : (m : WireMessage) → IsTypedMessage m → All IsPlain (head_words m)
 unfolding behind

@@ -139,15 +139,27 @@ decides-message m =
 
 decides-standing : (s : Standing) → Decides (is_standing s) (IsStanding s)
 decides-standing s =
-    let counts = are_counts s.progress.accepted && are_counts s.progress.view in
+    let far = are_counts s.progress.accepted && are_counts s.progress.view in
+    let over = are_counts s.over.accepted && are_counts s.over.view in
+    let counts = far && over in
     Decides-like (is_standing s)
-    (λ p. record { some = p.0.0; few = p.0.1; from = p.1.0.0; to = p.1.0.1; accepted = p.1.1.0; view = p.1.1.1 })
-    (λ is. ((is.some, is.few), ((is.from, is.to), (is.accepted, is.view))))
+    (λ p.
+    record {
+      some = p.0.0;
+      few = p.0.1;
+      from = p.1.0.0;
+      to = p.1.0.1;
+      accepted = p.1.1.0.0;
+      view = p.1.1.0.1;
+      offer = p.1.1.1.0;
+      tell = p.1.1.1.1;
+    })
+    (λ is. ((is.some, is.few), ((is.from, is.to), ((is.accepted, is.view), (is.offer, is.tell)))))
     (Decides-and (leb 1 s.replicas && leb s.replicas 8) ((leb s.from u8_max && leb s.to u8_max) && counts)
     (decides-two 1 s.replicas s.replicas 8)
     (Decides-and (leb s.from u8_max && leb s.to u8_max) counts (decides-two s.from u8_max s.to u8_max)
-    (Decides-and (are_counts s.progress.accepted) (are_counts s.progress.view) (decides-counts s.progress.accepted)
-    (decides-counts s.progress.view))))
+    (Decides-and far over (decides-both s.progress.accepted s.progress.view)
+    (decides-both s.over.accepted s.over.view))))
 
 decides-voteless : (op : Op) → Decides (is_voteless op) (IsVoteless op)
 decides-voteless (Inc x) = decides-yes

@@ -102,9 +102,14 @@ message_text m = joined_by 59 (joined_by 32 (head_words m) ∷ map update_text (
 abbrev pub known_word : List ℕ
 known_word = codes "known"
 
--- `known`, then the group's size, whose it is and for whom, and how far it is
+-- over what the letter was told that it answers: an offer, or a told set
+abbrev pub over_words : Progress → List (List ℕ)
+over_words p = kind_text kind.Offer ∷ counts_text p.accepted ∷ kind_text kind.Tell ∷ counts_text p.view ∷ []
+
+-- `known`, then the group's size, whose it is and for whom, how far it is, and what it answers
 abbrev pub standing_words : Standing → List (List ℕ)
-standing_words s = decimal s.replicas ∷ decimal s.from ∷ decimal s.to ∷ progress_words s.progress
+standing_words s =
+    decimal s.replicas ∷ decimal s.from ∷ decimal s.to ∷ progress_words s.progress ++ over_words s.over
 
 abbrev pub standing_text : Standing → List ℕ
 standing_text s = joined_by 32 (known_word ∷ standing_words s)
@@ -167,6 +172,13 @@ progress_in words = do
   view ← counts_behind view_word accepted.1
   Ok (record { accepted = accepted.0; view = view.0 }, view.1)
 
+-- over what the letter was told that is answered, and the words behind it
+unfoldable pub over_in : List (List ℕ) → Result (Progress × List (List ℕ)) LineFault
+over_in words = do
+  accepted ← counts_behind (kind_text kind.Offer) words
+  view ← counts_behind (kind_text kind.Tell) accepted.1
+  Ok (record { accepted = accepted.0; view = view.0 }, view.1)
+
 -- how far a replica is, by the words behind `known`
 unfoldable pub standing_in : List (List ℕ) → Result Standing LineFault
 standing_in words = do
@@ -174,8 +186,16 @@ standing_in words = do
   from ← first_number 0 u8_max replicas.1
   to ← first_number 0 u8_max from.1
   progress ← progress_in to.1
-  end ← at_end progress.1
-  Ok (record { replicas = replicas.0; from = from.0; to = to.0; progress = progress.0 })
+  over ← over_in progress.1
+  end ← at_end over.1
+  Ok
+      (record {
+        replicas = replicas.0;
+        from = from.0;
+        to = to.0;
+        progress = progress.0;
+        over = over.0;
+      })
 
 -- the base, and nothing behind it
 unfoldable pub base_on : List (List ℕ) → Result Counts LineFault

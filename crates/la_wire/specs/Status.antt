@@ -3,7 +3,7 @@ use Rattle.std.specs.Prelude.{ℕ, ◌==◌, Bool, List, [], ◌∷◌, ◌++◌
 use Rattle.std.specs.List.{flat_map, range_with_len}
 use Rattle.std.specs.Fmt.{decimal}
 use Rattle.la_node.specs.declared.link.Links.{Links}
-use Rattle.la_node.specs.Links.{known_of}
+use Rattle.la_node.specs.Links.{known_of, unheard_of}
 use Rattle.la_wire.specs.declared.status.Kinds.{Kinds}
 use Rattle.la_wire.specs.declared.status.Tally.{Tally}
 use Rattle.la_wire.specs.declared.status.NodeStatus.{NodeStatus}
@@ -40,10 +40,13 @@ counts_words t =
     ++ counted_words (codes "refused") t.refused ++ counted_words (codes "written") t.written
     ++ counted_words (codes "syncs") t.syncs
 
--- how far another replica is, as far as is known
+-- how far another replica is, as far as is known, and how many updates were sent to it that it did not say to have
 abbrev pub peer_words : Links → (own peer : ℕ) → List (List ℕ)
 peer_words known own p =
-    if p == own then [] else codes "peer" ∷ decimal p ∷ progress_words (known_of known p)
+    if p == own then []
+    else
+    codes "peer" ∷ decimal p ∷ progress_words (known_of known p)
+    ++ counted_words (codes "unheard") (unheard_of known p)
 
 -- of so many replicas, from this one on
 unfoldable pub peers_from : Links → (own first many : ℕ) → List (List ℕ)

@@ -58,7 +58,8 @@ abbrev pub is_standing : Standing → Bool
 is_standing s =
     (nat_le 1 s.replicas && nat_le s.replicas 8)
     && ((nat_le s.from u8_max && nat_le s.to u8_max)
-    && (are_counts s.progress.accepted && are_counts s.progress.view))
+    && ((are_counts s.progress.accepted && are_counts s.progress.view)
+    && (are_counts s.over.accepted && are_counts s.over.view)))
 
 abbrev pub is_voteless : Op → Bool
 is_voteless (Vote x sole) = false

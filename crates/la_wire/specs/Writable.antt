@@ -90,6 +90,8 @@ pub record IsStanding (s : Standing) : Type 0 where
   pub to : s.to ≤ u8_max
   pub accepted : IsCounts s.progress.accepted
   pub view : IsCounts s.progress.view
+  pub offer : IsCounts s.over.accepted
+  pub tell : IsCounts s.over.view
 
 -- no vote, which no node is called for
 abbrev pub IsVoteless : Op → Type 0

@@ -4,7 +4,7 @@ ghost use Rattle.la_script.specs.Words.{bytes_of};
 ghost use Rattle.la_wire.specs.Readings.{GivesOnLine, GivesFirst};
 ghost use Rattle.la_wire.specs.Messages.{said_delta, said_content, letter_message};
 ghost use Rattle.la_wire.specs.MessageLines.{kind_text, kind_word, message_header, first_counts, counts_behind};
-ghost use Rattle.la_wire.specs.MessageLines.{progress_in, standing_in, base_on, delta_in, body_in, message_at, message_in, line_message};
+ghost use Rattle.la_wire.specs.MessageLines.{progress_in, over_in, standing_in, base_on, delta_in, body_in, message_at, message_in, line_message};
 
 use crate::counts::counts_on;
 use crate::updates::updates_in;
@@ -124,7 +124,17 @@ fn progress_in<'a, 'b>(words: &'a [&'b [u8]]) -> Result<(Progress, &'a [&'b [u8]
     Ok((Progress { accepted, view }, words))
 }
 
-/// How far a replica is, and nothing behind it, by the words behind `known`.
+// Over what the letter was told that is answered, and the words behind it.
+#[tactic(auto, unfolding(crate::specs::MessageLines::over_in))]
+fn over_in<'a, 'b>(words: &'a [&'b [u8]]) -> Result<(Progress, &'a [&'b [u8]]), LineFault>
+    ensures { GivesFirst (over_in (bytes_of words.now)) result }
+{
+    let (accepted, words) = counts_behind(Kind::Offer.spelling(), words)?;
+    let (view, words) = counts_behind(Kind::Tell.spelling(), words)?;
+    Ok((Progress { accepted, view }, words))
+}
+
+/// How far a replica is, what it answers, and nothing behind it, by the words behind `known`.
 #[tactic(auto, unfolding(crate::specs::MessageLines::standing_in))]
 pub fn standing_in(words: &[&[u8]]) -> Result<Standing, LineFault>
     ensures { result ≡ standing_in (bytes_of words.now) }
@@ -134,12 +144,14 @@ pub fn standing_in(words: &[&[u8]]) -> Result<Standing, LineFault>
     let (from, words) = first_number(0, byte, words)?;
     let (to, words) = first_number(0, byte, words)?;
     let (progress, words) = progress_in(words)?;
+    let (over, words) = over_in(words)?;
     at_end(words)?;
     Ok(Standing {
         replicas: replicas as u8,
         from: from as u8,
         to: to as u8,
         progress,
+        over,
     })
 }
 

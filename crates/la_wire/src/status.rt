@@ -132,7 +132,8 @@ fn put_tally(out: &mut Vec<u8>, tally: &Tally) -> Result<(), AllocError>
     put_counted(out, b"syncs", tally.syncs)
 }
 
-// Writes how far another replica is, as far as is known: nothing of the node itself.
+// Writes how far another replica is, as far as is known, and how much was sent to it that it did not say to have:
+// nothing of the node itself.
 fn put_peer(out: &mut Vec<u8>, known: &Links, own: u8, peer: u8) -> Result<(), AllocError>
     ensures { OnOk result (out.new.items ≡ out.old.items ++ spaced 32 (peer_words known.now own peer)) }
 {
@@ -140,7 +141,8 @@ fn put_peer(out: &mut Vec<u8>, known: &Links, own: u8, peer: u8) -> Result<(), A
         return Ok(());
     }
     put_counted(out, b"peer", u64::from(peer))?;
-    put_progress(out, known.known(peer))
+    put_progress(out, known.known(peer))?;
+    put_counted(out, b"unheard", known.unheard(peer))
 }
 
 fn put_peers(out: &mut Vec<u8>, known: &Links, own: u8, replicas: u8) -> Result<(), AllocError>

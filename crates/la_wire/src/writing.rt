@@ -9,7 +9,7 @@ ghost use Rattle.la_wire.specs.Joined.{spaced, joined_by};
 ghost use Rattle.la_wire.specs.Updates.{op_words, update_words, update_text};
 ghost use Rattle.la_wire.specs.Messages.{letter_message, said_content};
 ghost use Rattle.la_wire.specs.MessageLines.{count_words, counts_text, base_words, base_word, carried};
-ghost use Rattle.la_wire.specs.MessageLines.{kind_text, kind_in, progress_words, header_words, message_text, standing_text};
+ghost use Rattle.la_wire.specs.MessageLines.{kind_text, kind_in, progress_words, over_words, header_words, message_text, standing_text};
 ghost use Rattle.la_wire.specs.Updates.{verb_spelling, own_text};
 ghost use Rattle.la_wire.specs.declared.updates.Verb.TheVariants.{Own};
 ghost use Rattle.la_wire.specs.Calls.{called};
@@ -272,6 +272,14 @@ pub fn put_letter(out: &mut Vec<u8>, letter: &Letter) -> Result<(), AllocError>
     put_content(out, &letter.parcel.content)
 }
 
+// Writes over what the letter was told that is answered.
+fn put_over(out: &mut Vec<u8>, over: Progress) -> Result<(), AllocError>
+    ensures { OnOk result (out.new.items ≡ out.old.items ++ spaced 32 (over_words over)) }
+{
+    put_labelled(out, Kind::Offer.spelling(), over.accepted)?;
+    put_labelled(out, Kind::Tell.spelling(), over.view)
+}
+
 /// Puts how far a replica is behind what is there, without the line's end. After a refusal a part of it may stand
 /// there.
 pub(crate) fn put_standing(out: &mut Vec<u8>, standing: &Standing) -> Result<(), AllocError>
@@ -281,7 +289,8 @@ pub(crate) fn put_standing(out: &mut Vec<u8>, standing: &Standing) -> Result<(),
     put_number(out, u64::from(standing.replicas))?;
     put_number(out, u64::from(standing.from))?;
     put_number(out, u64::from(standing.to))?;
-    put_progress(out, standing.progress)
+    put_progress(out, standing.progress)?;
+    put_over(out, standing.over)
 }
 
 // Writes a question's words.

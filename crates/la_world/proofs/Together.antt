@@ -26,7 +26,7 @@ use Rattle.la_node.specs.declared.config.Config.{Config}
 use Rattle.la_node.specs.declared.link.Letter.{Letter}
 use Rattle.la_node.specs.declared.link.Links.{Links}
 use Rattle.la_node.specs.Calls.{NodeCall, Submitted, Proposed, Received}
-use Rattle.la_node.specs.Links.{letters_of, is_owed, no_links}
+use Rattle.la_node.specs.Links.{letters_of, no_links}
 use Rattle.la_node.specs.Nodes.{NodeState, returned_by}
 use Rattle.la_node.specs.Steps.{Given, node_step, after_call}
 use Rattle.la_node.proofs.lemmas.Items.{get_put}
@@ -229,6 +229,10 @@ pub calls_together : CallsKeepTogether
 calls_together states letters learnt r q made call given links together at brought does =
     ∥∥₁_map together (λ is. called states letters learnt is r q at made call given links brought does)
 
+pub fewer_together : FewerLettersKeepTogether
+fewer_together states letters left learnt together within =
+    ∥∥₁_map together (λ is. fewer states letters left learnt learnt within (λ x has. has) is)
+
 -- ## Calls of which nothing was given out
 
 one_lost : (states : List ReplicaState) (letters : List Letter) (learnt : List LearntSet) (r : ℕ)
@@ -257,8 +261,8 @@ lost_together states letters learnt r q made (call ∷ calls) together at (broug
 -- ## What is sent again
 
 pub again_together : RepeatsKeepTogether
-again_together states letters learnt r q mail links together at whole told =
-    let some = filter (is_owed links) mail in
+again_together states letters learnt r q mail links chosen together at whole told =
+    let some = filter chosen mail in
     ∥∥₁_map together (λ is. record {
       config = is.config;
       calls = is.calls;
@@ -270,7 +274,7 @@ again_together states letters learnt r q mail links together at whole told =
           both_retold is.messages (mail_on links some) is.group.sent is.sent
           (again_retold is.config is.calls is.group is.reached links r q (ap (λ rs. slice_get rs r) is.are ∙ at) mail
           whole (told zero_counts) some
-          (λ m has. IsIn_contains mail m (IsIn_filter (is_owed links) mail m (contains_IsIn some m has))));
+          (λ m has. IsIn_contains mail m (IsIn_filter chosen mail m (contains_IsIn some m has))));
       of_these = letters_more letters is.messages links q some is.of_these;
       said = is.said;
     })

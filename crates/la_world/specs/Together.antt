@@ -2,7 +2,8 @@
 -- of them said that it has learnt them. A transport brings a letter that was sent to whom it is for: late, again, in
 -- any order, or never. A replica that is killed is started again where it was when it last gave something out, or
 -- where some calls led from there whose letters are lost.
-use Rattle.std.specs.Prelude.{◌≡◌, ℕ, List, [], ◌∷◌, ◌++◌, filter, slice_get, slice_set, Contains, Some, true}
+use Rattle.std.specs.Prelude.{◌≡◌, ℕ, Bool, List, [], ◌∷◌, ◌++◌, filter, slice_get, slice_set}
+use Rattle.std.specs.Prelude.{Contains, Some, true}
 use Rattle.la_set.specs.declared.counts.Counts.{Counts}
 use Rattle.la_set.specs.Inclusion.{AreComparable}
 use Rattle.la_commit.specs.declared.outcome.Outcome.{Outcome}
@@ -19,7 +20,7 @@ use Rattle.la_node.specs.declared.link.Letter.{Letter}
 use Rattle.la_node.specs.declared.link.Links.{Links}
 use Rattle.la_node.specs.Calls.{NodeCall, Submitted, Proposed, Received}
 use Rattle.la_node.specs.Configs.{IsConfig}
-use Rattle.la_node.specs.Links.{letters_of, is_owed}
+use Rattle.la_node.specs.Links.{letters_of}
 use Rattle.la_node.specs.Nodes.{returned_by}
 use Rattle.la_node.specs.Steps.{Given, node_step, after_call}
 use Rattle.la_world.specs.Calls.{replica_states_at_start}
@@ -78,6 +79,13 @@ CallsKeepTogether =
     AreTogether (slice_set states r made) (letters ++ letters_of links made given.mail)
     (learnt ++ learnt_by_call r call given.said)
 
+-- where some of the letters are lost, or never went out
+abbrev pub FewerLettersKeepTogether : Type 0
+FewerLettersKeepTogether =
+    (states : List ReplicaState) (letters left : List Letter) (learnt : List LearntSet) →
+    AreTogether states letters learnt → ((letter : Letter) → Contains left letter → Contains letters letter) →
+    AreTogether states left learnt
+
 -- after calls of one of them of which nothing was given out
 abbrev pub LostCallsKeepTogether : Type 0
 LostCallsKeepTogether =
@@ -86,14 +94,14 @@ LostCallsKeepTogether =
     AreTogether states letters learnt → slice_get states r ≡ Some q → LeadBrought letters r calls q made →
     AreTogether (slice_set states r made) letters learnt
 
--- once one of them has sent again what waits for an answer, or some of it
+-- once one of them has sent again what waits for an answer, or some of it: what its links choose
 abbrev pub RepeatsKeepTogether : Type 0
 RepeatsKeepTogether =
     (states : List ReplicaState) (letters : List Letter) (learnt : List LearntSet) (r : ℕ) (q : ReplicaState)
-    (mail : List code.Message) (links : Links) →
+    (mail : List code.Message) (links : Links) (chosen : code.Message → Bool) →
     AreTogether states letters learnt → slice_get states r ≡ Some q →
     whole_mail mail ≡ again q → ((offered : Counts) → AreToldIn q offered mail) →
-    AreTogether states (letters ++ letters_of links q (filter (is_owed links) mail)) learnt
+    AreTogether states (letters ++ letters_of links q (filter chosen mail)) learnt
 
 -- ## What they keep
 

@@ -6,7 +6,8 @@ ghost use Rattle.la_world.specs.LiveGroups.{LiveLearntAreComparable, LiveViewsAr
 ghost use Rattle.la_world.specs.LiveGroups.{LiveNodesAreOneHistory, NewNodesAreLive};
 ghost use Rattle.la_world.specs.LiveGroups.{NetworksMayLose, CallsKeepLive, UnheardCallsKeepLive};
 ghost use Rattle.la_world.specs.LiveParcels.{ParcelReceiptsKeepLive, LettersTellWhatWasSent};
-ghost use Rattle.la_world.specs.Together.{NewReplicasAreTogether, CallsKeepTogether, LostCallsKeepTogether};
+ghost use Rattle.la_world.specs.Together.{NewReplicasAreTogether, CallsKeepTogether, FewerLettersKeepTogether};
+ghost use Rattle.la_world.specs.Together.{LostCallsKeepTogether};
 ghost use Rattle.la_world.specs.Together.{RepeatsKeepTogether, LearntTogetherAreComparable};
 ghost use Rattle.la_world.specs.Together.{ViewsTogetherAreComparable, CommitsTogetherAgree};
 
@@ -85,10 +86,11 @@ pub fn new_replicas_are_together()
 {}
 
 /// Replicas that run each by itself stay together over any call of one of them, whatever it believes of the receivers
-/// of its letters; over calls of which nothing was given out, as of one that was killed and started again; and where
-/// one sends again what waits for an answer.
+/// of its letters; where some letters never go out; over calls of which nothing was given out, as of one that was killed
+/// and started again; and where one sends again what waits for an answer, or some of it.
 pub fn replicas_stay_together()
     ensures calls { CallsKeepTogether }
+    ensures fewer { FewerLettersKeepTogether }
     ensures lost { LostCallsKeepTogether }
     ensures again { RepeatsKeepTogether }
 {}

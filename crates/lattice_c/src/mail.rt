@@ -1,6 +1,6 @@
 // What a node sends and takes.
 ghost use Rattle.std.specs.Prelude.{◌≡◌, ◌≢◌, ◌⊎◌, List, Some, None, IfOk, IfSome, OnErr, option_map, slice_get};
-ghost use Rattle.la_embed.specs.Hosts.{HostState, IsPostedAgain, with_mail};
+ghost use Rattle.la_embed.specs.Hosts.{HostState, IsPostedAgain, with_noted};
 ghost use Rattle.la_embed.specs.Journals.{AllIsKept};
 ghost use Rattle.la_embed.specs.Outgoing.{receiver, outgoing_text};
 ghost use Rattle.la_embed.specs.Receiving.{TakesHostLine, IsLineRefusal};
@@ -33,9 +33,11 @@ pub extern "C" fn lattice_receive(handle: &mut Handle, bytes: &[u8]) -> u8
 /// timer, at each node: one call may not do. Where all is known, it sends nothing.
 #[unsafe(no_mangle)]
 pub extern "C" fn lattice_again(handle: &mut Handle) -> u8
-    ensures again { ((result ≡ 0) × IsPostedAgain handle.old.host.host handle.new.host.host.mail)
-        ⊎ ((result ≡ 1) × (handle.new.host.host.mail ≡ handle.old.host.host.mail)) }
-    ensures same { handle.new.host.host ≡ with_mail handle.old.host.host handle.new.host.host.mail }
+    ensures again { ((result ≡ 0)
+        × IsPostedAgain handle.old.host.host handle.new.host.host.mail handle.new.host.host.links)
+        ⊎ ((result ≡ 1) × (handle.new.host.host ≡ handle.old.host.host)) }
+    ensures same { handle.new.host.host
+        ≡ with_noted handle.old.host.host handle.new.host.host.mail handle.new.host.host.links }
 {
     match handle.inner().host.again() {
         Ok(()) => OK,

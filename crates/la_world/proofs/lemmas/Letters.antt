@@ -1,6 +1,7 @@
 -- Letters of mail are parcels of that mail, over other bases.
-use Rattle.std.proofs.Common.{◌≡◌, List, map, Contains, refl, sym, ap, subst, ◌∙◌, inl, inr}
+use Rattle.std.proofs.Common.{◌≡◌, Bool, List, map, filter, Contains, refl, sym, ap, subst, ◌∙◌, inl, inr}
 use Rattle.std.proofs.lemmas.List.Elements.{All-contains}
+use Rattle.la_set.proofs.lemmas.Filters.{filter-contains}
 use Rattle.la_replica.specs.declared.message.Message as code
 use Rattle.la_replica.specs.declared.parcel.Parcel.{Parcel}
 use Rattle.la_replica.specs.declared.parcel.Content.{Content}
@@ -65,6 +66,15 @@ among links r mail p has =
     let believed = (believed_of links m.to).view in
     subst (λ q. IsParcelAmong q (mail_on links mail)) (ap (λ (l : Letter). l.parcel) found.2 ∙ letter.2)
     (told_on links m, mapped_has (told_on links) mail m found.1, (believed, parcels_refl (wrapped believed (told_on links m))))
+
+-- the letters of some mail are among those of all of it
+pub some_letters : (links : Links) (r : ReplicaState) (chosen : code.Message → Bool) (mail : List code.Message)
+    (letter : Letter) → Contains (letters_of links r (filter chosen mail)) letter
+    → Contains (letters_of links r mail) letter
+some_letters links r chosen mail letter has =
+    let m = mapped_from (letter_of links r) (filter chosen mail) letter has in
+    subst (Contains (letters_of links r mail)) m.2
+    (mapped_has (letter_of links r) mail m.0 (filter-contains chosen mail m.0 m.1).0)
 
 pub letters_tell : LettersTellWhatWasSent
 letters_tell links r mail over = (retold links mail over, among links r mail)

@@ -26,19 +26,21 @@ returns-in_err-put-in-Ask-clause-err g c =
 
 pub returns-in_ok-put-in-Tick-clause-ok : goal.returns-in_ok-put-in-Tick-clause-ok
 returns-in_ok-put-in-Tick-clause-ok g c =
-    tick_taken Appends c.args.asking.number (heard_as c.args.asking c.args.input.now.line) c.args.input.now _ _ refl
-    refl _ c.own-in-Tick.ensures
-    (ap called (sym c.call.ensures.is ∙ c.in-Tick.is)) c.said_again-said.result c.in_ok-put-in-Tick.ensures.ok
-    c.said_again-said.ensures
+    again_taken Appends c.args.asking.number (heard_as c.args.asking c.args.input.now.line) c.args.input.now _ _ refl
+    refl _ c.own-in-Tick.ensures _ Timer
+    (λ t same is.
+    tick_here _ _ c.args.asking.number _ (ap called (sym c.call.ensures.is ∙ c.in-Tick.is)) t is)
+    c.said_again-said.result c.in_ok-put-in-Tick.ensures.ok c.said_again-said.ensures
 
 pub returns-in_err-put-in-Tick-clause-err : goal.returns-in_err-put-in-Tick-clause-err
 returns-in_err-put-in-Tick-clause-err g c =
     let f : IfErr c.from_residual-in_err-put-in-Tick.result (λ e. e ≡ WriteFault) = search rules in
     if_err_cut _ _ _ _ c.from_residual-in_err-put-in-Tick.result f
-    (tick_taken AppendsPrefix c.args.asking.number (heard_as c.args.asking c.args.input.now.line) c.args.input.now _ _
-    refl refl _ c.own-in-Tick.ensures
-    (ap called (sym c.call.ensures.is ∙ c.in-Tick.is)) c.said_again-said.result c.in_err-put-in-Tick.ensures.err
-    c.said_again-said.ensures)
+    (again_taken AppendsPrefix c.args.asking.number (heard_as c.args.asking c.args.input.now.line) c.args.input.now _ _
+    refl refl _ c.own-in-Tick.ensures _ Timer
+    (λ t same is.
+    tick_here _ _ c.args.asking.number _ (ap called (sym c.call.ensures.is ∙ c.in-Tick.is)) t is)
+    c.said_again-said.result c.in_err-put-in-Tick.ensures.err c.said_again-said.ensures)
 
 pub returns-in-Known-clause-ok : goal.returns-in-Known-clause-ok
 returns-in-Known-clause-ok g c =

@@ -7,6 +7,7 @@ returns-clause-new c = new_ones c.new_replicas_are_together.ensures
 pub returns-clause-turns : goal.returns-clause-turns
 returns-clause-turns c =
     turns c.numbers_are_read_apart.ensures.written c.replicas_stay_together.ensures.calls
+    c.replicas_stay_together.ensures.fewer
     c.replicas_stay_together.ensures.again
     c.letters_are_read_back_or_not.ensures
 
