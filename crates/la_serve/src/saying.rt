@@ -11,12 +11,12 @@ ghost use Rattle.la_serve.specs.Said.{shelf_by, is_idle, may_be_taken, still_awa
 ghost use Rattle.la_serve.specs.Said.{IsSaidAnswer, IsSaidAgain, IsSaidOfMessage, IsSaidText, IsSaidHere, IsSaidToAsk};
 
 use crate::asking::Asking;
-use crate::counting::count_owed;
+use crate::counting::count_mail;
 use crate::numbered::{said_of_proposal, said_of_submission};
 use crate::said::{Said, Why};
 use crate::texts::{answer_text, mail_text, standing_text, waiting_text};
 use la_durable::NodeMachine;
-use la_node::{Letter, Links};
+use la_node::{Letter, Links, Sending};
 use la_object::{Query, Replicated, Shelf, ShelfError};
 use la_set::UpdateId;
 use la_wire::{Call, Kinds};

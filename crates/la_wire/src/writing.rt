@@ -273,7 +273,7 @@ pub fn put_letter(out: &mut Vec<u8>, letter: &Letter) -> Result<(), AllocError>
 }
 
 // Writes over what the letter was told that is answered.
-fn put_over(out: &mut Vec<u8>, over: Progress) -> Result<(), AllocError>
+fn put_bases(out: &mut Vec<u8>, over: Progress) -> Result<(), AllocError>
     ensures { OnOk result (out.new.items ≡ out.old.items ++ spaced 32 (over_words over)) }
 {
     put_labelled(out, Kind::Offer.spelling(), over.accepted)?;
@@ -290,7 +290,7 @@ pub(crate) fn put_standing(out: &mut Vec<u8>, standing: &Standing) -> Result<(),
     put_number(out, u64::from(standing.from))?;
     put_number(out, u64::from(standing.to))?;
     put_progress(out, standing.progress)?;
-    put_over(out, standing.over)
+    put_bases(out, standing.over)
 }
 
 // Writes a question's words.

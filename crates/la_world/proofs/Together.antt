@@ -41,7 +41,8 @@ use Rattle.la_world.specs.Playing.{trace}
 use Rattle.la_world.specs.Rebased.{IsRetold, AreRetold}
 use Rattle.la_world.specs.ReplicaStates.{instance_of, replica_state}
 use Rattle.la_world.specs.Together.{IsTogether, AreTogether, IsBrought}
-use Rattle.la_world.specs.Together.{NewReplicasAreTogether, CallsKeepTogether, LostCallsKeepTogether}
+use Rattle.la_world.specs.Together.{NewReplicasAreTogether, CallsKeepTogether, FewerLettersKeepTogether}
+use Rattle.la_world.specs.Together.{LostCallsKeepTogether}
 use Rattle.la_world.specs.Together.{RepeatsKeepTogether}
 use Rattle.la_world.specs.Together.{LearntTogetherAreComparable, ViewsTogetherAreComparable, CommitsTogetherAgree}
 use Rattle.la_world.specs.Trace.{Trace}
