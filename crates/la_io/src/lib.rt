@@ -1,4 +1,4 @@
-//! Bytes and lines of streams: each line is taken whole from a reader, and put on a writer by one write.
+//! Bytes and lines of streams: each line is taken whole from a reader, and put on a writer whole.
 //!
 //! `specs/Streams.antt` has what is read and written, `specs/Sources.antt` what is read line by line.
 #![tactic(auto)]

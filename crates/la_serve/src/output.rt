@@ -27,7 +27,7 @@ impl<W: Write + Drop> Output<W> {
         }
     }
 
-    /// Writes lines, one write a line. Where a write fails a front of them is written, and they count as given.
+    /// Writes lines, as [`write_lines`] does. Where a write fails a front of them is written, and they count as given.
     pub(crate) fn give<D: Disk>(&mut self, disk: &D, text: &[u8]) -> Result<(), WriteFailed>
         ensures ok { OnOk result (Writes W.contents self.old.writer self.new.writer text.now) }
         ensures err { OnErr result (WritesPrefix W.contents self.old.writer self.new.writer text.now) }

@@ -125,7 +125,7 @@ fn of_step(fault: NodeFault) -> NodeFault
 }
 
 /// Takes the lines of an input as they come, until its end. What follows the last line's end is no line: it
-/// is told as `BadLine`. What is written is exactly what they come to, one write a line, and of a call that is kept
+/// is told as `BadLine`. What is written is exactly what they come to, and of a call that is kept
 /// only once its line is on the disk: all calls that one read brought are put there together. A crash at any moment
 /// from when a text was given out leaves a journal that has all calls that were kept up to it. What faults are told may
 /// find no taker, and then it goes on.
