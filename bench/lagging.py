@@ -113,7 +113,7 @@ class Links(Group):
             self.poll.unregister(node.input)
 
     def pass_time(self) -> None:
-        """Hands on the lines that were late and are due, and stops node 2 or lets it run again, if it is time for it."""
+        """Hands on the lines that were late and are due, and stops node 2, or lets it run again, when it is time."""
         now = time.monotonic()
         if now > self.until:
             raise Late

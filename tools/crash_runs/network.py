@@ -64,7 +64,7 @@ class Mail:
 
 
 class Network:
-    """All lines that are under way. What is lost, comes again, or comes in another order, is drawn by the run's draw."""
+    """All lines that are under way. The run's draw says what is lost, comes again, or comes in another order."""
 
     def __init__(self, draw: random.Random, weather: Weather) -> None:
         self.draw, self.weather, self.round = draw, weather, 0

@@ -181,7 +181,8 @@ class Run:
         elsewhere = ["", "# tick", f"# r{other} view 1 1 1 1 1 1 1 1", f"submit {other} 1 inc 7", f"decide {other} 0 9"]
         # What lines of another group say of it is none of this one's.
         far, group, over = "has 99,99,99 view 99,99,99", self.group.replicas, bases_of(self.program)
-        elsewhere += [f"yes {group % 8 + 1} {other} {own} 0 1 {far}", f"known {group % 8 + 1} {other} {own} {far}{over}"]
+        strange = f"{group % 8 + 1} {other} {own}"
+        elsewhere += [f"yes {strange} 0 1 {far}", f"known {strange} {far}{over}"]
         elsewhere += [f"ask {other} 1 total", f"submit {other}.1 1 inc 7"]
         elsewhere += [f"known {group} {other} {own} has 0 view 0{over}"]
         elsewhere += [f"ask {other} 3 tags 1 at {own}.1", f"submit {other} 3 take 1", f"status {other}"]
@@ -343,8 +344,8 @@ class Run:
         raise Stuck(f"views do not become equal: {[it.view for it in self.checker.nodes]}")
 
     def deliver_next(self) -> None:
-        """Gives the next lines to whom they are for. Where all are late, or for a node that stands still, a round passes,
-        in some of which the timer of a node runs out."""
+        """Gives the next lines to whom they are for. If all are late, or for a node that stands still, nothing but time
+        passes, and in some rounds the timer of a node runs out."""
         self.network.round += 1
         if (own := self.network.next_receiver()) is not None:
             return self.post(self.nodes[own].give(self.network.taken(own, 4)))
