@@ -107,6 +107,6 @@ class Network:
         return lines
 
     def lose_of(self, gone: int) -> None:
-        """Loses all lines of a node that is away, and all for it but the last four."""
-        late = [it.line for it in self.pool if receiver(it.line) == gone][:-4]
+        """Loses all lines of a node that is away, and all for it that are due but the last four."""
+        late = [it for it in self.due() if receiver(it) == gone][:-4]
         self.pool = [it for it in self.pool if sender(it.line) != gone and it.line not in late]

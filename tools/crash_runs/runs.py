@@ -21,8 +21,8 @@ from .objects import OWN, live_of
 
 # A run that takes longer, or so many rounds of ticks at its end, hangs.
 SECONDS, ROUNDS = 60, 400
-# How many lines more than those that make one silent come while it is away.
-AWAY = 24
+# How many lines more than those that make one silent come while it is away, and how many submissions are made then.
+AWAY, MOST_AWAY = 24, 60
 # How many submissions more one node makes where one is slow.
 STREAM = 15
 # While all lines that are under way are late, a node ticks once in so many rounds.
@@ -64,7 +64,8 @@ class Run:
         self.compact, self.has_away = seed % 2, seed % 4 > 1 and self.group.replicas > 1
         self.checker, self.log = Checker(self.group), []
         self.network = Network(self.draw, drawn_weather(seed, self.group.replicas))
-        self.ticked = 0
+        # The round of the last tick while all was late; and how many submissions were made while one was away.
+        self.ticked = self.alone = 0
         self.figures: Counter[str] = Counter()
         self.nodes = []
         for own in range(self.group.replicas):
@@ -302,7 +303,9 @@ class Run:
             return
         if not node.process:
             return node.start()
-        lines = [self.drawn_line(node.own, "submit")] if self.draw.random() < 0.2 else []
+        submits = self.draw.random() < 0.2 and self.alone < MOST_AWAY
+        self.alone += submits
+        lines = [self.drawn_line(node.own, "submit")] if submits else []
         lines += ["tick"] if self.draw.random() < 0.3 else []
         if node.own != gone:
             others = [it for it in self.network.due() if receiver(it) != node.own]
