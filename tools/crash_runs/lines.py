@@ -32,8 +32,10 @@ ANSWER = rf"{TOTAL}|largest {NUMBER}|(?:has|reached) (?:yes|no)|size {NUMBER}|it
 ANSWER += rf"|tags{TAGS}|updates{COUNTS}"
 # How a node stands: how far it is and its proposer, what it knows of its peers, and what its process counted.
 FAR = " has ([0-9,]+) view ([0-9,]+)"
+# How much was sent to a peer that it did not say to have: a program from before that does not say it.
+UNHEARD = "(?: unheard (?:0|[1-9][0-9]*))?"
 PEER = re.compile(f" peer ([0-7]){FAR}")
-PEERS = "((?: peer [0-7] has [0-9,]+ view [0-9,]+)*)"
+PEERS = f"((?: peer [0-7] has [0-9,]+ view [0-9,]+{UNHEARD})*)"
 TALLY = "".join(f" {way}" + "".join(f" {it} {NUMBER}" for it in FORMS) for way in ("in", "out"))
 TALLY += "".join(f" {it} {NUMBER}" for it in ("refused", "written", "syncs"))
 STANDS = rf"version [0-9.]+{FAR} submitted {NUMBER} waiting {NUMBER} ballot {NUMBER} (open|shut){PEERS}{TALLY}"
