@@ -169,6 +169,10 @@ def known_in(line: bytes) -> Message:
     words.take()
     group, sender, to = words.number(1, REPLICAS), words.number(0, U8), words.number(0, U8)
     has, view = words.counts_behind(b"has"), words.counts_behind(b"view")
+    if words.taken < len(words.words):
+        # over what the letter was told that it answers: a program from before that says nothing of it
+        words.counts_behind(b"offer")
+        words.counts_behind(b"tell")
     words.end()
     return Message("known", group, sender, to, 0, 0, has, view)
 

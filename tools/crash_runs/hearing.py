@@ -43,6 +43,15 @@ def is_idle(it: Message, here: Far) -> bool:
     return it.verb == "tell" and (not within(it.base, here.view) or within(it.counts, here.view))
 
 
+def lacks_base(it: Message) -> bool:
+    """Whether a `known` says that its sender lacks what the letter was told over that it answers: then the node to
+    which it is told sends a letter over less."""
+    if not it.over:
+        return False
+    offer, tell = it.over
+    return not within(offer, it.has) or not within(tell, it.view)
+
+
 @dataclass
 class Heard:
     """A line of its group that a node was given, and how far the node was right before it: at least, and at most, where

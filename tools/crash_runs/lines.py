@@ -22,6 +22,9 @@ HEADS = {
     verb: re.compile(verb + f" {NUMBER}" * numbers + "".join(f" {it} ([0-9,]+)" for it in words))
     for verb, (numbers, words) in FORMS.items()
 }
+# Behind a `known` there may be over what the letter was told that it answers: an offer's base, and a tell's. A program
+# from before that does not say it.
+HEADS["known"] = re.compile(HEADS["known"].pattern + "(?: offer ([0-9,]+) tell ([0-9,]+))?")
 WORD = re.compile(r"0|(?:(?:0|[1-9][0-9]*),){0,7}[1-9][0-9]*")
 TOTAL = "total (?:0|-?[1-9][0-9]*)"
 COUNTS = rf"((?: {NUMBER}){{{REPLICAS}}})"
@@ -29,8 +32,10 @@ ANSWER = rf"{TOTAL}|largest {NUMBER}|(?:has|reached) (?:yes|no)|size {NUMBER}|it
 ANSWER += rf"|tags{TAGS}|updates{COUNTS}"
 # How a node stands: how far it is and its proposer, what it knows of its peers, and what its process counted.
 FAR = " has ([0-9,]+) view ([0-9,]+)"
+# How much was sent to a peer that it did not say to have: a program from before that does not say it.
+UNHEARD = "(?: unheard (?:0|[1-9][0-9]*))?"
 PEER = re.compile(f" peer ([0-7]){FAR}")
-PEERS = "((?: peer [0-7] has [0-9,]+ view [0-9,]+)*)"
+PEERS = f"((?: peer [0-7] has [0-9,]+ view [0-9,]+{UNHEARD})*)"
 TALLY = "".join(f" {way}" + "".join(f" {it} {NUMBER}" for it in FORMS) for way in ("in", "out"))
 TALLY += "".join(f" {it} {NUMBER}" for it in ("refused", "written", "syncs"))
 STANDS = rf"version [0-9.]+{FAR} submitted {NUMBER} waiting {NUMBER} ballot {NUMBER} (open|shut){PEERS}{TALLY}"
@@ -93,7 +98,8 @@ class Malformed(Exception):
 @dataclass(frozen=True)
 class Message:
     """A message, or what is told by `known`, which has no instance and no ballot. How far its sender is: `has`, what
-    that has accepted in instance 0, and its `view`. Of a Yes and of a `known` base and updates are empty."""
+    that has accepted in instance 0, and its `view`. Of a Yes and of a `known` base and updates are empty. `over` is
+    what a `known` says of the letter that it answers, where it says it: the base of an offer, and of a tell."""
 
     verb: str
     group: int
@@ -105,6 +111,7 @@ class Message:
     view: Counts
     base: Counts
     updates: tuple[Update, ...]
+    over: tuple[Counts, ...] = ()
 
     @property
     def counts(self) -> Counts:
@@ -172,7 +179,10 @@ def read_message(line: str) -> Message:
         raise Malformed(f"more than a {verb}")
     count = FORMS[verb][0]
     group, sender, to, instance, ballot = (*(int(it) for it in match.groups()[:count]), 0, 0)[:5]
-    has, view, base = (*(read_word(it) for it in match.groups()[count:]), NOTHING)[:3]
+    has, view, *rest = (read_word(it) for it in match.groups()[count:] if it is not None)
+    if verb == "known":
+        return Message(verb, group, sender, to, instance, ballot, has, view, NOTHING, (), tuple(rest))
+    base = rest[0] if rest else NOTHING
     return Message(verb, group, sender, to, instance, ballot, has, view, base, read_updates(base, parts))
 
 
