@@ -537,7 +537,7 @@ class Checker:
         node.firm = node.exact = True
 
     def tell(self, own: int, it: Message) -> None:
-        """A tell goes over what its receiver's view is known to have or letters told it, and not once more where that is
+        """A tell goes over what its receiver's view is known to have, or letters told it, and not once more if that is
         known to have it all."""
         self.learn(own, 0, it.ballot, it.counts)
         node = self.nodes[own]

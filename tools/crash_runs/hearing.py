@@ -103,6 +103,11 @@ class Track:
         least, most = larger(self.least, reach), larger(here if self.most is None else self.most, reach)
         return Track(self.known, least, most, base, mended, self.lacks)
 
+    def unheard(self, begun: Counts) -> int:
+        """How many updates letters told, beyond how far its node was when its life began, that it did not say to have:
+        at least, where that is not known."""
+        return sum(max(0, sent - heard) for sent, heard in zip(self.least, larger(self.known, begun)))
+
     def takes(self, it: Message, here: Counts, ever: Counts) -> bool:
         """Whether a node that is so far may send this letter, whose base is what it believes of the receiver, or what
         the receiver ever said: as much of that as the letter's set has."""
@@ -138,8 +143,8 @@ def noted_by(tracks: Tracks, it: Message) -> Tracks:
 
 
 class Hearing:
-    """What one node was told of each replica: `ever`, in all its lives, and what it makes of that in this one. Since it
-    is not known how many of its lines it has handled when it sends one, it may be at several places: each is a number of
+    """What one node was told of each replica: `ever`, in all its lives, and what it makes of that in this one. Nobody
+    sees how many of its lines it has handled when it sends one, so it may be at several places: each is a number of
     lines that it has handled, and the tracks that it then has."""
 
     def __init__(self) -> None:
@@ -152,7 +157,7 @@ class Hearing:
         self.lines: list[Heard] = []
         pair = tuple(Track(least=it, most=it if is_sure else None) for it in (here.has, here.view))
         self.places: set[tuple[int, Tracks]] = {(0, (pair,) * REPLICAS)}
-        self.own = 0
+        self.own, self.begun, self.is_sure = 0, here, is_sure
         self.waiting: deque[Heard] = deque()
         self.owed: list[Heard] = []
         self.done = {0}
@@ -262,11 +267,15 @@ class Hearing:
         """Whether it knows, wherever it is, that the view of a replica has all this."""
         return all(within(view, tracks[replica][1].known) for _, tracks in self.later_places())
 
-    def stands(self, peers: dict[int, tuple[Counts, Counts]]) -> bool:
+    def stands(self, peers: dict[int, tuple[Counts, Counts, int]]) -> bool:
         """Takes what it says that it knows of the others once it has handled all lines that it has surely handled:
         whether it may be at a place where it does."""
+        def is_peer(accepted: Track, view: Track, it: tuple[Counts, Counts, int]) -> bool:
+            unheard = accepted.unheard(self.begun.has) + view.unheard(self.begun.view)
+            return (accepted.known, view.known) == it[:2] and (unheard == it[2] or not self.is_sure)
+
         def is_here(tracks: Tracks) -> bool:
-            return all((tracks[it][0].known, tracks[it][1].known) == far for it, far in peers.items())
+            return all(is_peer(*tracks[replica], it) for replica, it in peers.items())
 
         found = {(at, tracks) for at, tracks in self.later_places() if at == self.handled_lines() and is_here(tracks)}
         self.places = found or self.places
