@@ -97,8 +97,8 @@ class Malformed(Exception):
 @dataclass(frozen=True)
 class Message:
     """A message, or what is told by `known`, which has no instance and no ballot. How far its sender is: `has`, what
-    that has accepted in instance 0, and its `view`. Of a Yes and of a `known` base and updates are empty. `over` is what
-    a `known` says of the letter that it answers, where it says it: the base of an offer, and of a tell."""
+    that has accepted in instance 0, and its `view`. Of a Yes and of a `known` base and updates are empty. `over` is
+    what a `known` says of the letter that it answers, where it says it: the base of an offer, and of a tell."""
 
     verb: str
     group: int
