@@ -14,7 +14,7 @@ from collections import Counter, defaultdict, deque
 from dataclasses import dataclass, field
 
 from . import carts
-from .hearing import Far, Hearing, is_idle, lacks_base, larger, smaller, within
+from .hearing import Far, Hearing, is_idle, lacks_base, larger, within
 from .lines import (
     FAULTY, FORMS, NOTHING, Counts, Malformed, Message, Standing, apart, read_counts, read_message, read_note,
     read_standing,
@@ -85,7 +85,7 @@ class Seen:
         """A life begins."""
         self.line, self.passed, self.returns = 0, True, None
         self.names.clear()
-        self.hearing.begin()
+        self.hearing.begin(Far(self.has, self.view), self.exact and self.firm)
         self.untold.clear()
         self.came.clear()
         self.sent.clear()
@@ -457,13 +457,8 @@ class Checker:
 
     def are_known(self, own: int, it: Standing) -> bool:
         """Whether of all others just so much is known as the node was told."""
-        hearing, others = self.nodes[own].hearing, [peer for peer in range(self.group.replicas) if peer != own]
-        must, may = hearing.must.far, hearing.may.far
-        return list(it.peers) == others and all(
-            within(must[peer].has, has) and within(has, may[peer].has)
-            and within(must[peer].view, view) and within(view, may[peer].view)
-            for peer, (has, view) in it.peers.items()
-        )
+        others = [peer for peer in range(self.group.replicas) if peer != own]
+        return list(it.peers) == others and self.nodes[own].hearing.stands(it.peers)
 
     # What a node learns
 
@@ -522,7 +517,7 @@ class Checker:
         for update in it.updates:
             self.content(it.instance, update)
         if it.verb == "known":
-            if not self.nodes[own].hearing.answered(it.to, Far(it.has, it.view)):
+            if not self.nodes[own].hearing.answered(it.to, Far(it.has, it.view), it.over):
                 self.fault("known", own, f"an answer to no message of {it.to}")
         elif it.verb == "tell":
             self.tell(own, it)
@@ -542,35 +537,29 @@ class Checker:
         node.firm = node.exact = True
 
     def tell(self, own: int, it: Message) -> None:
-        """A tell goes over what its receiver's view is believed to have, and not once more where that is known to have
-        it all."""
+        """A tell goes over what its receiver's view is known to have, or letters told it, and not once more if that is
+        known to have it all."""
         self.learn(own, 0, it.ballot, it.counts)
         node = self.nodes[own]
-        far = node.hearing.beliefs(it.to, Far(it.has, it.view), it.to in node.untold)
-        beliefs = [(one.view, other.view) for one, other in far]
-        if not any(within(smaller(must, it.counts), it.base) and within(it.base, may) for must, may in beliefs):
-            self.fault("base", own, f"a tell to {it.to} over {it.base}, of which is believed {beliefs}")
-        known = node.hearing.must.far[it.to].view
-        if it.to in node.untold:
-            node.untold.remove(it.to)
-        elif within(it.counts, known):
-            self.fault("again", own, f"a tell of {it.counts} to {it.to}, whose view has {known}")
+        is_again = it.to not in node.untold and node.hearing.is_known_to_have(it.to, it.counts)
+        if not node.hearing.tells(it, it.to in node.untold):
+            self.fault("base", own, f"a tell of {it.counts} to {it.to} over {it.base}")
+        if is_again:
+            self.fault("again", own, f"a tell of {it.counts} to {it.to}, whose view has it")
+        node.untold.discard(it.to)
 
     def offer(self, own: int, it: Message) -> None:
         """An offer goes over what its receiver has said that it has accepted, in instance 0 on whatever line; or there
-        over what that is believed to have."""
+        over what letters told it."""
         before = self.offered.setdefault((own, it.instance, it.ballot), it.counts)
         if before != it.counts:
             self.fault("ballots", own, f"instance {it.instance}, ballot {it.ballot}: {before} and {it.counts}")
-        hearing = self.nodes[own].hearing
-        beliefs = [(NOTHING, self.accepted.get((it.to, it.instance), NOTHING))]
         if it.instance == 0:
-            said = hearing.ever[it.to].has
-            far = hearing.beliefs(it.to, Far(it.has, it.view))
-            beliefs = [(one.has, larger(said, other.has)) for one, other in far]
-        if not any(within(smaller(must, it.counts), it.base) and within(it.base, may) for must, may in beliefs):
-            what = f"an offer in instance {it.instance} to {it.to} over {it.base}"
-            self.fault("base", own, f"{what}, of which is believed {beliefs}")
+            is_right = self.nodes[own].hearing.tells(it, False)
+        else:
+            is_right = within(it.base, self.accepted.get((it.to, it.instance), NOTHING))
+        if not is_right:
+            self.fault("base", own, f"an offer in instance {it.instance} of {it.counts} to {it.to} over {it.base}")
 
     def reply(self, own: int, it: Message, then: Far | None) -> None:
         """An acceptor's reply, of a node that was so far then; what it has accepted only grows."""

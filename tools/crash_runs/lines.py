@@ -32,10 +32,9 @@ ANSWER = rf"{TOTAL}|largest {NUMBER}|(?:has|reached) (?:yes|no)|size {NUMBER}|it
 ANSWER += rf"|tags{TAGS}|updates{COUNTS}"
 # How a node stands: how far it is and its proposer, what it knows of its peers, and what its process counted.
 FAR = " has ([0-9,]+) view ([0-9,]+)"
-# How much was sent to a peer that it did not say to have: a program from before that does not say it.
-UNHEARD = "(?: unheard (?:0|[1-9][0-9]*))?"
-PEER = re.compile(f" peer ([0-7]){FAR}")
-PEERS = f"((?: peer [0-7] has [0-9,]+ view [0-9,]+{UNHEARD})*)"
+# Behind how far a peer is stands how many updates were sent to it that it did not say to have.
+PEER = re.compile(f" peer ([0-7]){FAR} unheard {NUMBER}")
+PEERS = "((?: peer [0-7] has [0-9,]+ view [0-9,]+ unheard (?:0|[1-9][0-9]*))*)"
 TALLY = "".join(f" {way}" + "".join(f" {it} {NUMBER}" for it in FORMS) for way in ("in", "out"))
 TALLY += "".join(f" {it} {NUMBER}" for it in ("refused", "written", "syncs"))
 STANDS = rf"version [0-9.]+{FAR} submitted {NUMBER} waiting {NUMBER} ballot {NUMBER} (open|shut){PEERS}{TALLY}"
@@ -124,8 +123,9 @@ class Message:
 
 @dataclass(frozen=True)
 class Standing:
-    """How a node says that it stands: how far it is and its proposer, how far its peers are, and what its process
-    counted: messages in and out by their kinds, refusals, and bytes and syncs of the journal."""
+    """How a node says that it stands: how far it is and its proposer, how far its peers are and how many updates were
+    sent to each that it did not say to have, and what its process counted: messages in and out by their kinds,
+    refusals, and bytes and syncs of the journal."""
 
     has: Counts
     view: Counts
@@ -133,7 +133,7 @@ class Standing:
     waiting: int
     ballot: int
     is_open: bool
-    peers: dict[int, tuple[Counts, Counts]]
+    peers: dict[int, tuple[Counts, Counts, int]]
     received: dict[str, int]
     sent: dict[str, int]
     refused: int
@@ -189,7 +189,8 @@ def read_message(line: str) -> Message:
 def read_standing(values: tuple[str, ...]) -> Standing:
     """How a node stands, by what follows the word of its note."""
     has, view, submitted, waiting, ballot, word, rest, *counted = values
-    peers = {int(peer): (read_word(one), read_word(other)) for peer, one, other in PEER.findall(rest)}
+    found = PEER.findall(rest)
+    peers = {int(peer): (read_word(one), read_word(other), int(unheard)) for peer, one, other, unheard in found}
     tally, kinds = [int(it) for it in counted], len(FORMS)
     received, sent = dict(zip(FORMS, tally)), dict(zip(FORMS, tally[kinds:]))
     refused, *journal = tally[2 * kinds:]

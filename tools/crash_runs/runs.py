@@ -13,7 +13,6 @@ from . import carts
 from .check import Checker, Entry, Group
 from .clients import Client
 from .disks import flipped
-from .hearing import PATIENCE
 from .lines import FAULTY
 from .network import Network, drawn_weather, receiver
 from .nodes import Node, Stuck
@@ -21,8 +20,8 @@ from .objects import OWN, live_of
 
 # A run that takes longer, or so many rounds of ticks at its end, hangs.
 SECONDS, ROUNDS = 60, 400
-# How many lines more than those that make one silent come while it is away, and how many submissions are made then.
-AWAY, MOST_AWAY = 24, 60
+# How many lines come at least while one is away, and how many submissions are made then at most.
+AWAY, MOST_AWAY = 88, 60
 # How many submissions more one node makes where one is slow.
 STREAM = 15
 # While all lines that are under way are late, a node ticks once in so many rounds.
@@ -292,8 +291,7 @@ class Run:
 
     def misses(self, own: int, gone: int) -> bool:
         """Whether a node has heard enough lines without one that is away, and some more."""
-        known = self.checker.nodes[own].hearing.must
-        return known.heard - known.last[gone] >= PATIENCE + AWAY
+        return self.checker.nodes[own].hearing.missed(gone) >= AWAY
 
     def go_on(self, node: Node, gone: int) -> None:
         """A node submits, ticks, and is given what is for it, and some of what is for others; or it is started. To
