@@ -44,7 +44,7 @@ module _ (n : ServerState) (t : Turn) where
   goes : IsWhat n t → Goes n t
   goes (inl quiet) = inl (quiet.0, quiet.1)
   goes (inr (inl again)) =
-      inl (ap (λ (u : Turn). u.kept) again.1.turn, ap (λ (u : Turn). u.after.kept) again.1.turn)
+      inl (ap (λ (u : Turn). u.kept) again.3.turn, ap (λ (u : Turn). u.after.kept) again.3.turn)
   goes (inr (inr takes)) =
       taken_goes takes.call takes.stands takes.says takes.taken.given takes.taken.acted
       (leaves_be n.kept t.after.kept takes.call takes.taken.given) refl takes.taken.journal

@@ -270,7 +270,7 @@ module _ (laws : ProposersGoOn) (objects : List (ℕ × Kind)) where
       → (ds : List ObjectOp) × GoesOnWith ds n.kept t.after.kept
   turn_goes n k t may is = elim (what objects n k t is) [
     | inl quiet ↦ ([], same_goes n.kept t.after.kept may quiet.1)
-    | inr (inl (known, again)) ↦
+    | inr (inl (known, over, why, again)) ↦
         ([], same_goes n.kept t.after.kept may (ap (λ (x : Turn). x.after.kept) again.turn))
     | inr (inr takes) ↦
         let call = call_of_line n.kept takes.call (takes.taken.given, t.after.kept) takes.taken.acted in

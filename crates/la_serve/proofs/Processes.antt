@@ -4,6 +4,7 @@ use Rattle.std.proofs.Common.{[], ◌∷◌, ◌++◌, length, map, slice_get, s
 use Rattle.std.proofs.Common.{option_and_then, ap, subst, ◌∙◌, append-nil, arith}
 use Rattle.std.specs.List.{range_with_len}
 use Rattle.std.proofs.lemmas.Bool.{eqb-true, false≢true}
+use Rattle.std.proofs.lemmas.List.Elements.{Contains-append_left, Contains-append_right, Contains-append_cases}
 use Rattle.std.proofs.lemmas.Option.{none-some, same_Some}
 use Rattle.la_set.specs.declared.update.Op.{Op}
 use Rattle.la_set.specs.declared.update.Op.TheVariants as op
@@ -25,7 +26,6 @@ use Rattle.la_replica.specs.Whole.{Message, Out}
 use Rattle.la_node.specs.declared.link.Letter.{Letter}
 use Rattle.la_node.specs.declared.link.Sending.TheVariants as sending
 use Rattle.la_node.specs.Links.{letters_of, letters_sent, is_chosen}
-use Rattle.la_world.proofs.lemmas.Letters.{some_letters}
 use Rattle.la_node.specs.Accepting.{accepts, is_for, takes_message, unwraps, parcel_call}
 use Rattle.la_node.specs.Calls.{NodeCall, Submitted, Proposed, Received}
 use Rattle.la_node.specs.SecondVotes.{Submission}
@@ -42,6 +42,7 @@ use Rattle.la_wire.specs.Writable.{IsTypedMessage}
 use Rattle.la_durable.specs.CallLines.{CallLine}
 use Rattle.la_durable.specs.Nodes.{acts, node_call, parcel_of, content_of}
 use Rattle.la_durable.specs.Restarts.{LeadBetween, RestartsTakeCalls}
+use Rattle.la_world.proofs.lemmas.Letters.{some_letters}
 use Rattle.la_world.specs.LiveGroups.{LearntSet, learnt_set, learnt_by_call}
 use Rattle.la_world.specs.Together.{AreTogether, IsOfLetters, IsBrought, LeadBrought, NewReplicasAreTogether}
 use Rattle.la_world.specs.Together.{CallsKeepTogether, FewerLettersKeepTogether, LostCallsKeepTogether}

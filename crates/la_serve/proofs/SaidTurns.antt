@@ -12,7 +12,8 @@ use Rattle.la_set.specs.declared.update.UpdateId.{UpdateId}
 use Rattle.la_node.specs.declared.link.Letter.{Letter}
 use Rattle.la_node.specs.declared.link.Links.{Links}
 use Rattle.la_node.specs.declared.link.Sending.{Sending}
-use Rattle.la_node.specs.Links.{letters_sent, noted_all, is_lacked, tells_nothing, wants_standing, bases_of, standing_of}
+use Rattle.la_node.specs.declared.link.Sending.TheVariants as sending
+use Rattle.la_node.specs.Links.{asked_with, letters_sent, noted_all, is_lacked, tells_nothing, wants_standing, bases_of, standing_of}
 use Rattle.la_replica.specs.declared.parcel.Content.{Content}
 use Rattle.la_replica.specs.declared.parcel.Content.TheVariants as content
 use Rattle.la_replica.specs.declared.progress.Progress.{Progress}
@@ -42,7 +43,7 @@ use Rattle.la_serve.specs.Heard.{HeardLine, bare, heard_name, heard_call, heard_
 use Rattle.la_serve.specs.Io.{Io}
 use Rattle.la_serve.specs.Turns.{Turn, ServerState, OneOf, IsAnsweredTurn, IsTurnHere, own_of}
 use Rattle.la_serve.specs.Turns.{only_writes, only_sends, only_says, IsRequestTurn, IsHeardTurn, IsSentAgain}
-use Rattle.la_serve.specs.Turns.{IsTimerTurn, IsMendingTurn, IsStarved, IsKnownOf}
+use Rattle.la_serve.specs.Turns.{IsMendingTurn, IsStarved, IsKnownOf}
 use Rattle.la_serve.specs.Said.{said_text, is_idle, asks_of, may_be_taken}
 use Rattle.la_serve.specs.Said.{IsSaidToAsk, IsSaidAgain, IsSaidHere, IsSaidToQuestion}
 use Rattle.la_serve.specs.Serving.{OfCall, OfHeard, OfQuestion, OfRequest, OfTake, IsStarvedLine}
@@ -144,13 +145,16 @@ module _ (Wrote : (before after : Option (List ℕ)) → List ℕ → Type 0) (k
   pub again_taken : (s : Said) → Wrote before.out after.out (said_text own k heard.name s)
       → IsSaidAgain over before.state.known before.state.kept reason s after.state.known
       → TakesBy Wrote (OfCall heard input IsTurnHere k) TellsNoLine before after
-  again_taken (said.Lines text) w is = sent_taken text.items w is.0 is.1 is.2 is.3.0 is.3.1
+  again_taken (said.Lines text) w is = sent_taken text.items w is.0 is.1 is.2 is.3 is.4
   again_taken (said.Refused w) wrote is = starved_again w is.0 is.1 wrote
 
 -- when the timer has run out
-pub tick_here : (objects : List (ℕ × Kind)) (n : ServerState) (k : ℕ) (call : WireCall) → call ≡ Tick → (t : Turn)
-    → (IsTimerTurn n t ⊎ IsStarved n k t) → IsTurnHere objects n k call t
-tick_here objects n k call e t is = subst (λ (x : WireCall). IsTurnHere objects n k x t) (sym e) is
+pub tick_here : (objects : List (ℕ × Kind)) (n : ServerState) (k : ℕ) (call : WireCall) (over : Links) → call ≡ Tick
+    → over ≡ asked_with n.known (progress_of n.kept) → (t : Turn)
+    → (IsSentAgain n over sending.Timer t ⊎ IsStarved n k t) → IsTurnHere objects n k call t
+tick_here objects n k call over e asked t is =
+    subst (λ (x : WireCall). IsTurnHere objects n k x t) (sym e)
+    (subst (λ l. IsSentAgain n l sending.Timer t ⊎ IsStarved n k t) asked is)
 
 -- once another said how far it is
 module _ (objects : List (ℕ × Kind)) (n : ServerState) (k : ℕ) (call : WireCall) (r : ℕ) where

@@ -196,10 +196,11 @@ IsSaidToQuestion objects n known h (Status replica) s = IsSaidStatus n known h.n
 -- of what waits for an answer some, once more, as letters over these links, which note them; or there was no memory, and
 -- then nothing is noted
 abbrev pub IsSaidAgain : (over before : Links) → ReplicaState → Sending → Said → (after : Links) → Type 0
-IsSaidAgain over before n why (said.Lines text) after =
+IsSaidAgain over before n reason (said.Lines text) after =
     (mail : List code.Message) × (whole_mail mail ≡ again n) × ((offered : Counts) → AreToldIn n offered mail)
-    × (text.items ≡ letters_text (letters_sent over n why mail)) × (after ≡ noted_all over (letters_sent over n why mail))
-IsSaidAgain over before n why (said.Refused w) after = (w ≡ why.Memory) × (after ≡ before)
+    × (text.items ≡ letters_text (letters_sent over n reason mail))
+    × (after ≡ noted_all over (letters_sent over n reason mail))
+IsSaidAgain over before n reason (said.Refused w) after = (w ≡ why.Memory) × (after ≡ before)
 
 -- a message over more than this node has, or that brings no news
 abbrev pub is_idle : ReplicaState → WireMessage → Bool

@@ -31,6 +31,7 @@ use Rattle.la_serve.specs.Io.{Streams, Facts, facts, io_with}
 use Rattle.la_serve.specs.Turns.{ServerState}
 use Rattle.la_serve.specs.Serving.{ServesAll, IsServeRefusal}
 use Rattle.la_serve.specs.Crashes.{at_start, LeftBy}
+use Rattle.la_replica.specs.Progress.{progress_of}
 use Rattle.la_replica.specs.ReplicaState.{ReplicaState}
 
 -- what is told of so many bytes that were cut, where a crash left some behind the last group
@@ -50,7 +51,7 @@ TellsOfRun f disk unsaid old new lines =
     TellsAll f.heard f.refuses old.errors new.errors
     (torn_told (length (rest_in (parts (f.seen disk)))) ++ (unsaid_told unsaid ++ lines))
 
--- a node that was started knows nothing of others
+-- a node that was started has heard nothing of others, and believes them to be as far as it is
 abbrev pub newly_started : ReplicaState → ServerState
 newly_started n = record { kept = n; known = links_over (progress_of n) }
 

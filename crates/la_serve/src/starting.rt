@@ -2,6 +2,9 @@ ghost use Rattle.std.specs.Prelude.{◌≡◌, ◌⊎◌, ◌≤◌, take, true,
 ghost use Rattle.la_set.specs.Histories.{empty};
 ghost use Rattle.la_object.specs.Objects.{start};
 ghost use Rattle.la_io.specs.Streams.{TellsLine, TellsAll};
+ghost use Rattle.la_durable.specs.Nodes.{kept_by};
+ghost use Rattle.la_node.specs.Links.{links_over};
+ghost use Rattle.la_replica.specs.Progress.{progress_of};
 ghost use Rattle.la_serve.specs.Faults.{of_journal, start_fault, space_count, option_at};
 ghost use Rattle.la_serve.specs.Ending.{node_status, end_line, end_line_at, end_detail, is_of_folder};
 ghost use Rattle.la_serve.specs.Ending.{no_journal_line, no_journal_short, ServerEnds};
@@ -290,9 +293,10 @@ fn start<R: Read, W: Write + Drop, E: Listener, D: Disk, B: Replicated>(
             };
             tell_cut(cut, errors);
             tell_unsaid(unsaid, errors);
-            let links = Links::over(durable.machine.node.progress());
+            let node = Staged::new(alloc, durable);
+            let links = links_at_start(&node.durable.machine);
             let mut server = Server {
-                node: Staged::new(alloc, durable),
+                node,
                 shelf,
                 links,
                 tally: Tally::none(),
@@ -305,6 +309,13 @@ fn start<R: Read, W: Write + Drop, E: Listener, D: Disk, B: Replicated>(
             (Err(fault), disk)
         }
     }
+}
+
+// What a node that was started knows of others.
+fn links_at_start(machine: &NodeMachine) -> Links
+    ensures { result ≡ links_over (progress_of (kept_by machine.now)) }
+{
+    Links::over(machine.node.progress())
 }
 
 // An object in the start state of its kind.

@@ -1,4 +1,4 @@
-use Rattle.std.proofs.Common.{◌≡◌, length, refl, ap, ◌∙◌, rules, IfErr}
+use Rattle.std.proofs.Common.{◌≡◌, inl, inr, length, refl, ap, ◌∙◌, rules, IfErr}
 use Rattle.std.specs.Io.KnownBytes.{Appends}
 use Rattle.std.proofs.KnownBytes.{Appends-nil}
 use Rattle.la_set.specs.Histories.{updates}
@@ -18,10 +18,10 @@ returns-in-Ok-clause-ok g c =
     let out = rw c.in-Taken.is at c.keep.ensures.outcome in
     take_taken Appends c.args.asking.number (heard_as c.args.asking c.args.input.now.line)
     c.args.input.now _ _ (given_of c.in-Taken.given)
-    out.0 out.1 refl _
+    out.0 out.1 (inl c.in-Ok.ensures.noted) _
     (c.deref.ensures.value
     ∙ same_text _ _ _ c.args.server.now.links (kept_by c.keep.new.node.durable.machine) _ _ _ _
-    (given_of c.in-Taken.given) c.in-Ok.ensures
+    (given_of c.in-Taken.given) c.in-Ok.ensures.text
     (c.len-before.ensures.len ∙ ap (λ v. length (updates v)) c.view.ensures) (ap called c.call.ensures.is)
     refl)
     c.in_ok-write_lines-in-Ok.ensures.ok
@@ -33,10 +33,10 @@ returns-in_err-write_lines-in-Ok-clause-err g c =
     if_err_cut _ _ _ _ c.from_residual.result f
     (take_taken AppendsPrefix c.args.asking.number (heard_as c.args.asking c.args.input.now.line)
     c.args.input.now _ _
-    (given_of c.in-Taken.given) out.0 out.1 refl _
+    (given_of c.in-Taken.given) out.0 out.1 (inl c.in-Ok.ensures.noted) _
     (c.deref.ensures.value
     ∙ same_text _ _ _ c.args.server.now.links (kept_by c.keep.new.node.durable.machine) _ _ _ _
-    (given_of c.in-Taken.given) c.in-Ok.ensures
+    (given_of c.in-Taken.given) c.in-Ok.ensures.text
     (c.len-before.ensures.len ∙ ap (λ v. length (updates v)) c.view.ensures) (ap called c.call.ensures.is)
     refl)
     c.in_err-write_lines-in-Ok.ensures.err)
@@ -46,7 +46,7 @@ returns-in-Taken-clause-err g c =
     let out = rw c.in-Taken.is at c.keep.ensures.outcome in
     take_taken AppendsPrefix c.args.asking.number (heard_as c.args.asking c.args.input.now.line)
     c.args.input.now _ _
-    (given_of c.in-Taken.given) out.0 out.1 refl _ refl
+    (given_of c.in-Taken.given) out.0 out.1 (inr c.in-Err.ensures.err) _ refl
     (0, Appends-nil (g.W.Write.contents c.args.output.now))
 
 pub returns-clause-ok : goal.returns-clause-ok

@@ -25,10 +25,10 @@ use Rattle.la_serve.proofs.starting.start.Goals as goal
 
 pub serve-served-requires-clause-takes : goal.serve-served-requires-clause-takes
 serve-served-requires-clause-takes g c κs within = (
-  ap (λ d. d.closed) c.new-in-Ok-recover.ensures.durable ∙ c.in-Ok-compact_grown.ensures.ok.unclosed,
-  subst (λ (v : Histories). IsSubset v c.new-in-Ok-recover.result.durable.machine.node.replica.view)
+  ap (λ d. d.closed) c.new-node.ensures.durable ∙ c.in-Ok-compact_grown.ensures.ok.unclosed,
+  subst (λ (v : Histories). IsSubset v c.new-node.result.durable.machine.node.replica.view)
       (sym c.requires.0)
-      (nothing_within c.new-in-Ok-recover.result.durable.machine.node.replica.view),
+      (nothing_within c.new-node.result.durable.machine.node.replica.view),
 )
 
 pub returns-in-Ok-compact_grown : goal.returns-in-Ok-compact_grown
@@ -42,10 +42,10 @@ returns-in-Ok-compact_grown g c =
     let start = c.in-Ok.ensures.start in
     let played = c.in-Ok-recover.durable in
     let compacted = c.compact_grown.new.durable in
-    let served = c.new-in-Ok-recover.result.durable in
+    let served = c.new-node.result.durable in
     let unsaid = c.in-Ok-compact_grown.unsaid in
     let final = c.serve-served.new.server.node.durable.disk in
-    let is = c.new-in-Ok-recover.ensures.durable in
+    let is = c.new-node.ensures.durable in
     let same_state : kept_by served.machine ≡ kept_by played.machine =
     ap (λ d. kept_by d.machine) is ∙ ap kept_by c.compact_grown.ensures.machine in
     let old = io c.args.input.now c.args.out.now c.args.errors.now in
@@ -93,7 +93,7 @@ returns-in-Ok-compact_grown g c =
     disk played.disk compacted.disk plays_first recovery (c.compact_grown.ensures.any_moment fresh leads_first)) in (
       subst (λ d. OnOk c.serve-served.result (RunsAll f objects options disk d old new)) (sym c.into_disk.ensures)
           (runs f objects _ options disk served.disk final old new c.tell_unsaid.new.errors _ _ _
-          c.new-in-Ok-recover-2.ensures begun leads both c.tell_cut.new.errors told_first c.tell_unsaid.ensures
+          c.links_at_start-links.ensures begun leads both c.tell_cut.new.errors told_first c.tell_unsaid.ensures
           c.serve-served.result c.serve-served.ensures.ok),
       subst
           (λ d.
@@ -102,7 +102,7 @@ returns-in-Ok-compact_grown g c =
           (sym c.into_disk.ensures)
           (err_both c.serve-served.result _ _
           (stops f objects _ options disk served.disk final old new c.tell_unsaid.new.errors _ _ _
-          c.new-in-Ok-recover-2.ensures begun leads both c.tell_cut.new.errors told_first c.tell_unsaid.ensures
+          c.links_at_start-links.ensures begun leads both c.tell_cut.new.errors told_first c.tell_unsaid.ensures
           c.serve-served.result c.serve-served.ensures.err)
           (failed_later c.serve-served.result (g.D.Disk.faults disk) (g.D.Disk.faults served.disk)
           (g.D.Disk.faults final) later c.serve-served.ensures.failed)),
