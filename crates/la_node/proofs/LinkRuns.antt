@@ -1,5 +1,5 @@
 -- What is believed of others is bounded by what was sent and said.
-use Rattle.std.proofs.Common.{◌≡◌, ℕ, zero, suc, ◌<◌, ◌≤◌, ◌==◌, max, Bool, true, false, cond, List, [], ◌∷◌, length, fold}
+use Rattle.std.proofs.Common.{◌≡◌, ℕ, zero, suc, ◌<◌, ◌==◌, max, Bool, true, false, cond, List, [], ◌∷◌, length, fold}
 use Rattle.std.proofs.Common.{Contains, slice_index_or, slice_set, refl, sym, ap, subst, arith, inl, inr}
 use Rattle.std.proofs.lemmas.Bool.{cases_lt, false≢true}
 use Rattle.la_set.specs.declared.counts.Counts.{Counts}
@@ -13,11 +13,10 @@ use Rattle.la_replica.specs.Progress.{larger}
 use Rattle.la_node.specs.declared.link.Letter.{Letter}
 use Rattle.la_node.specs.declared.link.Link.{Link}
 use Rattle.la_node.specs.declared.link.Links.{Links}
-use Rattle.la_node.specs.declared.link.Standing.{Standing}
 use Rattle.la_node.specs.declared.track.Track.{Track}
-use Rattle.la_node.specs.Links.{no_track, no_link, base_on, heard_on, lacking_on, answered_on, noted_on, asked_on}
+use Rattle.la_node.specs.Links.{no_link, base_on, heard_on, lacking_on, noted_on, asked_on}
 use Rattle.la_node.specs.Links.{heard_link, answered_link, asked_link, noted_content, link_of, with_link, is_held}
-use Rattle.la_node.specs.Links.{links_over, answered_with, noted_with, asked_with, asked_of, believed_of, reach_of}
+use Rattle.la_node.specs.Links.{links_over, asked_with, reach_of}
 use Rattle.la_node.specs.Links.{is_lacking}
 use Rattle.la_node.specs.LinkRuns.{LinkCall, Said, Answered, Wrote, Asked, after_link, AreCountsWithin, IsFarWithin}
 use Rattle.la_node.specs.LinkRuns.{IsToldWithin, IsCallWithin, BeliefsAreBounded, LackingIsBelieved}

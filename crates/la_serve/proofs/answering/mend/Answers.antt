@@ -1,4 +1,4 @@
-use Rattle.std.proofs.Common.{◌≡◌, IfErr, refl, sym, ap, ◌∙◌, false, true, rules}
+use Rattle.std.proofs.Common.{◌≡◌, IfErr, refl, false, true, rules}
 use Rattle.std.specs.Io.KnownBytes.{Appends}
 use Rattle.la_io.specs.Streams.{AppendsPrefix}
 use Rattle.la_node.specs.declared.link.Sending.TheVariants.{Lack}

@@ -6,7 +6,6 @@ use Rattle.la_replica.specs.Again.{again}
 use Rattle.la_replica.specs.Progress.{progress_of}
 use Rattle.la_replica.specs.Whole.{whole_mail}
 use Rattle.la_embed.specs.Hosts.{HostState, IsSent}
-use Rattle.la_embed.specs.Keepers.{state_kept}
 use Rattle.la_embed.proofs.Sending.{where_ok}
 use Rattle.la_embed.proofs.host.Host.again.Goals as goal
 

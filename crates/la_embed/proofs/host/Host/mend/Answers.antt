@@ -1,10 +1,8 @@
 use Rattle.std.proofs.Common.{◌≡◌, true, inl, inr, sym, ap, subst, ◌∙◌, rules}
-use Rattle.la_node.specs.declared.link.Sending.TheVariants as sending
-use Rattle.la_node.specs.Links.{is_lacked, letters_sent}
+use Rattle.la_node.specs.Links.{is_lacked}
 use Rattle.la_replica.specs.Again.{again}
 use Rattle.la_replica.specs.Whole.{whole_mail}
-use Rattle.la_embed.specs.Hosts.{HostState, IsMendedIf, IsSent}
-use Rattle.la_embed.specs.Keepers.{state_kept}
+use Rattle.la_embed.specs.Hosts.{HostState, IsMendedIf}
 use Rattle.la_embed.proofs.Sending.{either_way}
 use Rattle.la_embed.proofs.host.Host.mend.Goals as goal
 

@@ -1,10 +1,10 @@
-use Rattle.std.proofs.Common.{◌≡◌, ◌++◌, ◌∷◌, [], filter, length, map, ap, sym, subst, ◌∙◌, arith}
+use Rattle.std.proofs.Common.{◌≡◌, ◌++◌, ◌∷◌, [], filter, length, ap, sym, subst, ◌∙◌, arith}
 use Rattle.std.proofs.lemmas.List.{append_assoc}
 use Rattle.std.proofs.lemmas.List.Elements.{All-cons}
 use Rattle.la_replica.specs.declared.message.Message as code
 use Rattle.la_replica.specs.Rebased.{IsOfferOver}
 use Rattle.la_node.specs.declared.link.Letter.{Letter}
-use Rattle.la_node.specs.Links.{is_chosen, letter_of, letters_of, letters_sent, told_on, AreOffersOver}
+use Rattle.la_node.specs.Links.{is_chosen, letter_of, letters_of, told_on, AreOffersOver}
 use Rattle.la_node.proofs.Looking.{filter_keeps, filter_drops}
 use Rattle.la_node.proofs.link.Links.letters.Goals as goal
 
