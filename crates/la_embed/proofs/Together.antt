@@ -35,8 +35,8 @@ use Rattle.la_world.proofs.lemmas.Letters.{mapped_has, some_letters}
 use Rattle.la_embed.specs.declared.outgoing.Outgoing.{Outgoing}
 use Rattle.la_embed.specs.declared.outgoing.Outgoing.TheVariants as out
 use Rattle.la_embed.specs.Hosts.{HostState, IsHostStep, IsSentAgain, IsMendedIf, IsPosted, IsToldBack}
-use Rattle.la_embed.specs.Hosts.{host_of, with_mail, with_noted, with_letter, with_letters}
-use Rattle.la_embed.specs.Receiving.{TakesHostLine, TakesRead, IsTaken, BringsOwn, own_first, links_by}
+use Rattle.la_embed.specs.Hosts.{host_of, with_links, with_mail, with_noted, with_letter, with_letters}
+use Rattle.la_embed.specs.Receiving.{TakesHostLine, TakesRead, AnswersIf, IsTaken, BringsOwn, own_first, links_by}
 use Rattle.la_embed.specs.Together.{kept_of_hosts, AreHostsTogether, AreStillTogether, IsLineOfSent}
 use Rattle.la_embed.specs.Together.{IsCallOfSent, learnt_by_host, NewHostsAreTogether, StepsKeepHostsTogether}
 use Rattle.la_embed.specs.Together.{LinesKeepHostsTogether, OwnMailKeepsHostsTogether, RepeatsKeepHostsTogether}
@@ -295,14 +295,24 @@ module _ (hosts : List HostState) (letters : List Letter) (learnt : List LearntS
   mended_on again true links replica after noted same (inr (lost, now)) =
       quiet_on after same (subst (λ ms. AreSent ms letters) (sym lost) waiting)
 
+  -- how far the host is was told to another, or taken by itself
+  answered_on : RepeatsKeepTogether → (is_own : Bool) (links : Links) (s : Standing) (after : HostState)
+      → AnswersIf is_own (with_links before links) s after → AreStillTogether hosts letters learnt r after
+  answered_on again false links s after (told, is) =
+      quiet_on after (ap (λ (h : HostState). h.kept) is)
+      (told_back s before.mail after.mail letters told waiting)
+  answered_on again true links s after (mended, is) =
+      let heard = answered_with links s in
+      mended_on again (is_lacked heard s.from) heard s.from after after.links (ap (λ (h : HostState). h.kept) is) mended
+
   -- what is received is of a letter that was sent
-  taken_on : CallsKeepTogether → (after : HostState) (letter : Letter) (nothing : Bool)
+  taken_on : CallsKeepTogether → RepeatsKeepTogether → (after : HostState) (letter : Letter) (nothing : Bool)
       → IsCallOfSent letters (Receive (letter_message letter)) → IsTaken before letter nothing after
       → AreStillTogether hosts letters learnt r after
-  taken_on calls after letter true sent (told, is) =
-      quiet_on after (ap (λ (h : HostState). h.kept) is)
-      (told_back (standing_of before.kept letter.parcel) before.mail after.mail letters told waiting)
-  taken_on calls after letter false sent (given, step) =
+  taken_on calls again after letter true sent is =
+      let s = standing_of before.kept letter.parcel in
+      answered_on again (s.to == before.kept.own) (links_by before letter) s after is
+  taken_on calls again after letter false sent (given, step) =
       let heard = links_by before letter in
       let call = Receive (letter_message letter) in (
         letters_of heard after.kept given.mail,
@@ -328,7 +338,7 @@ module _ (hosts : List HostState) (letters : List Letter) (learnt : List LearntS
       eqb-true letter.parcel.to before.kept.own
       (and_right (letter.replicas == length before.kept.votes) (letter.parcel.to == before.kept.own) takes.here)
       ∙ own in
-      taken_on calls after letter (wants_standing before.kept letter.parcel)
+      taken_on calls again after letter (wants_standing before.kept letter.parcel)
       (subst (λ x. IsCallOfSent letters (Receive x)) (sym is)
       (may m refl (sym (ap (λ (x : WireMessage). x.to) is) ∙ to))) takes.taken
 
@@ -385,7 +395,7 @@ own_on calls again back hosts letters learnt r before after brought (Some letter
     elim how [
       | inl takes ↦
           once_more hosts letters learnt r left after
-          (taken_on (slice_set hosts r left) letters learnt r left still there calls after letter
+          (taken_on (slice_set hosts r left) letters learnt r left still there calls again after letter
           (wants_standing left.kept letter.parcel) (letter, its, refl) takes.taken)
       | inr other ↦ elim other [
         | inl line ↦

@@ -34,24 +34,31 @@ is_for_host kept replicas to = (replicas == length kept.votes) && (to == kept.ow
 abbrev pub links_by : HostState → Letter → Links
 links_by before letter = known_with before.links letter.parcel.from letter.progress
 
+-- Another says how far it is: where it lacks what a letter was told over, it is told that.
+abbrev pub TakesStanding : HostState → Standing → HostState → Type 0
+TakesStanding before s after =
+    IsMended before.kept (answered_with before.links s) s.from before.mail after.mail after.links
+    × (after ≡ with_noted before after.mail after.links)
+
+-- How far the host is is told to another; what it would tell to itself it takes at once.
+abbrev pub AnswersIf : (own : Bool) → HostState → Standing → HostState → Type 0
+AnswersIf true before s after = TakesStanding before s after
+AnswersIf false before s after = IsToldBack s before.mail after.mail × (after ≡ with_mail before after.mail)
+
+abbrev pub Answers : HostState → Standing → HostState → Type 0
+Answers before s after = AnswersIf (s.to == before.kept.own) before s after
+
 -- A letter over more than the host has, or that brings nothing, is answered by how far the host is. Any other is
 -- received.
 abbrev pub IsTaken : HostState → Letter → (idle : Bool) → HostState → Type 0
 IsTaken before letter true after =
-    IsToldBack (standing_of before.kept letter.parcel) before.mail after.mail
-    × (after ≡ with_mail (with_links before (links_by before letter)) after.mail)
+    Answers (with_links before (links_by before letter)) (standing_of before.kept letter.parcel) after
 IsTaken before letter false after =
     TakesCall before (links_by before letter) (Receive (letter_message letter)) after
 
 pub record TakesLetter (before : HostState) (letter : Letter) (after : HostState) : Type 0 where
   pub here : is_for_host before.kept letter.replicas letter.parcel.to ≡ true
   pub taken : IsTaken before letter (wants_standing before.kept letter.parcel) after
-
--- Another says how far it is: where it lacks what a letter was told over, it is told that.
-abbrev pub TakesStanding : HostState → Standing → HostState → Type 0
-TakesStanding before s after =
-    IsMended before.kept (answered_with before.links s) s.from before.mail after.mail after.links
-    × (after ≡ with_noted before after.mail after.links)
 
 -- a letter, or how far another is, was read
 abbrev pub TakesRead : HostState → Result WireCall LineFault → HostState → Type 0

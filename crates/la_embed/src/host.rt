@@ -26,7 +26,7 @@ ghost use Rattle.la_embed.specs.Learnt.{IsNextLearnt, handed_noting};
 ghost use Rattle.la_embed.specs.Hosts.{host_of, host_over, shelf_now, submitted_by, with_handed, with_journal, with_mail};
 ghost use Rattle.la_embed.specs.Hosts.{TakesCall, IsSent, IsPosted, IsToldBack, IsPostedAgain, IsMended, IsUnseen};
 ghost use Rattle.la_embed.specs.Hosts.{with_letter, with_letters, with_noted, with_objects};
-ghost use Rattle.la_embed.specs.Receiving.{TakesHostLine, TakesLetter, TakesByLine, RefusesHere, IsLineRefusal, BringsOwn};
+ghost use Rattle.la_embed.specs.Receiving.{Answers, TakesHostLine, TakesLetter, TakesByLine, RefusesHere, IsLineRefusal, BringsOwn};
 ghost use Rattle.la_embed.specs.Receiving.{own_first};
 ghost use Rattle.la_embed.specs.Receiving.{is_for_host};
 
@@ -372,7 +372,8 @@ impl<B: Replicated> Host<B> {
         })
     }
 
-    // Answers a letter that is not received by how far the host is. Where there is no memory the answer is lost, as a transport may lose it.
+    // Answers another's letter that is not received by how far the host is. Where there is no memory the answer is lost,
+    // as a transport may lose it.
     fn tell_back(&mut self, standing: Standing)
         ensures mail { IsToldBack standing self.old.mail self.new.mail }
         ensures same { self.new ≡ with_mail self.old self.new.mail }
@@ -381,6 +382,18 @@ impl<B: Replicated> Host<B> {
             return;
         };
         self.mail.push_back_reserved(Outgoing::Standing(standing));
+    }
+
+    // Tells another how far the host is; where it would tell itself, it hears it at once.
+    fn answer(&mut self, standing: Standing)
+        ensures { Answers self.old standing self.new }
+    {
+        if standing.to == self.own() {
+            self.links.hear_answer(&standing);
+            self.mend(standing.from);
+        } else {
+            self.tell_back(standing);
+        }
     }
 
     // Takes a letter, by its line where there is a journal.
@@ -399,7 +412,7 @@ impl<B: Replicated> Host<B> {
         if node.wants_standing(&letter.parcel) {
             let standing = node.standing(&letter.parcel);
             self.links = links;
-            self.tell_back(standing);
+            self.answer(standing);
             return Ok(());
         }
         self.act(Call::Receive(letter), line, links)?;
