@@ -14,7 +14,7 @@ from collections import Counter, defaultdict, deque
 from dataclasses import dataclass, field
 
 from . import carts
-from .hearing import Far, Hearing, is_idle, larger, smaller, within
+from .hearing import Far, Hearing, is_idle, larger, within
 from .lines import (
     FAULTY, FORMS, NOTHING, Counts, Malformed, Message, Standing, apart, read_counts, read_message, read_note,
     read_standing,
@@ -85,7 +85,7 @@ class Seen:
         """A life begins."""
         self.line, self.passed, self.returns = 0, True, None
         self.names.clear()
-        self.hearing.begin()
+        self.hearing.begin(Far(self.has, self.view), self.far())
         self.untold.clear()
         self.came.clear()
         self.sent.clear()
@@ -193,7 +193,7 @@ class Checker:
         mine = words[:2] in ([it, str(own)] for it in ("submit", "decide", "ask", "update", "status"))
         mine = mine or words[0] == "submit" and words[1].startswith(f"{own}.")
         here = [str(self.group.replicas), str(own)]
-        mailed = words[0] in ("offer", "yes", "no", "tell") and words[1:4:2] == here
+        mailed = words[0] in FORMS and words[1:4:2] == here
         if line in FAULTY:
             return node.to_say.append(f"line {node.line}: {FAULTY[line]}" + (f" @{name}" if name else ""))
         self.hear(own, line)
@@ -202,8 +202,11 @@ class Checker:
             node.awaited.append((node.line, words))
 
     def hear(self, own: int, line: str) -> None:
-        """A node takes note of how far the sender of a line of its group is, whoever that is for."""
+        """A node takes note of how far the sender of a line of its group is, whoever that is for; or it is given a
+        tick."""
         node = self.nodes[own]
+        if line == "tick":
+            return node.hearing.ticked(node.line)
         try:
             it = read_message(line) if line.split(" ", 1)[0] in FORMS else None
         except Malformed:
@@ -218,6 +221,13 @@ class Checker:
         if it := node.hearing.handled(line, node.far()):
             rule = "known" if is_idle(it.message, it.most or it.least) else "replies"
             self.fault(rule, own, f"no answer to line {it.line}, {it.message}")
+        self.mended(own)
+
+    def mended(self, own: int) -> None:
+        """Where a replica said that it lacks something, that was written before anything else."""
+        if it := self.nodes[own].hearing.unmended:
+            self.fault("lack", own, f"nothing mends what line {it.line} lacks, {it.message}")
+            self.nodes[own].hearing.unmended = None
 
     def take_killed(self, own: int, _line: str) -> None:
         node = self.nodes[own]
@@ -262,6 +272,7 @@ class Checker:
                 self.message(own, read_message(line))
         except Malformed as fault:
             self.fault("form", own, f"{fault}: {line}")
+        self.mended(own)
 
     def note(self, own: int, line: str) -> None:
         """What answers a request ends in its name, and nothing else does."""
@@ -448,14 +459,9 @@ class Checker:
         node.lost_numbers = {number for number in node.lost_numbers if number <= it.submitted}
 
     def are_known(self, own: int, it: Standing) -> bool:
-        """Whether of all others just so much is known as the node was told."""
-        hearing, others = self.nodes[own].hearing, [peer for peer in range(self.group.replicas) if peer != own]
-        must, may = hearing.must.far, hearing.may.far
-        return list(it.peers) == others and all(
-            within(must[peer].has, has) and within(has, may[peer].has)
-            and within(must[peer].view, view) and within(view, may[peer].view)
-            for peer, (has, view) in it.peers.items()
-        )
+        """Whether of all others just so much is known as the node was told, and so much unheard as it wrote since."""
+        others = [peer for peer in range(self.group.replicas) if peer != own]
+        return list(it.peers) == others and self.nodes[own].hearing.stands(it.peers)
 
     # What a node learns
 
@@ -506,6 +512,7 @@ class Checker:
         wrong = it.group != self.group.replicas or it.sender != own or it.to >= it.group
         wrong = wrong or it.instance > 2 * self.group.commits or it.verb == "tell" and it.instance > 0
         wrong = wrong or it.verb != "known" and it.ballot == 0 or any(it.has[it.group :] + it.view[it.group :])
+        wrong = wrong or any(it.offer[it.group :] + it.tell[it.group :])
         if wrong or any(it.counts[it.group :]):
             raise Malformed("not a message of this node")
         self.nodes[own].sent[it.verb] += 1
@@ -514,8 +521,8 @@ class Checker:
         for update in it.updates:
             self.content(it.instance, update)
         if it.verb == "known":
-            if not self.nodes[own].hearing.answered(it.to, Far(it.has, it.view)):
-                self.fault("known", own, f"an answer to no message of {it.to}")
+            if not self.nodes[own].hearing.answered(it):
+                self.fault("known", own, f"an answer to no message of {it.to} over offer {it.offer}, tell {it.tell}")
         elif it.verb == "tell":
             self.tell(own, it)
         elif it.verb == "offer":
@@ -526,6 +533,7 @@ class Checker:
     def progress(self, own: int, has: Counts, view: Counts, is_reply: bool = False) -> None:
         """How far a node says that it is: it never shrinks, and is what it has said of its steps before."""
         node = self.nodes[own]
+        node.hearing.said(Far(has, view))
         if not within(node.has, has) or node.firm and not is_reply and has != node.has:
             self.fault("progress", own, f"has {has} after {node.has}")
         if not within(node.view, view) or node.exact and view != node.view:
@@ -534,35 +542,29 @@ class Checker:
         node.firm = node.exact = True
 
     def tell(self, own: int, it: Message) -> None:
-        """A tell goes over what its receiver's view is believed to have, and not once more where that is known to have
-        it all."""
+        """A tell goes over what its receiver's view is believed to have: to each other once, and then where a tick or a
+        lack asks for it."""
         self.learn(own, 0, it.ballot, it.counts)
-        node = self.nodes[own]
-        far = node.hearing.beliefs(it.to, Far(it.has, it.view), it.to in node.untold)
-        beliefs = [(one.view, other.view) for one, other in far]
-        if not any(within(smaller(must, it.counts), it.base) and within(it.base, may) for must, may in beliefs):
-            self.fault("base", own, f"a tell to {it.to} over {it.base}, of which is believed {beliefs}")
-        known = node.hearing.must.far[it.to].view
-        if it.to in node.untold:
-            node.untold.remove(it.to)
-        elif within(it.counts, known):
-            self.fault("again", own, f"a tell of {it.counts} to {it.to}, whose view has {known}")
+        self.wrote(own, it, it.to in self.nodes[own].untold)
+        self.nodes[own].untold.discard(it.to)
 
     def offer(self, own: int, it: Message) -> None:
-        """An offer goes over what its receiver has said that it has accepted, in instance 0 on whatever line; or there
-        over what that is believed to have."""
+        """An offer goes over what its receiver has said that it has accepted; or in instance 0 over what that is believed
+        to have."""
         before = self.offered.setdefault((own, it.instance, it.ballot), it.counts)
         if before != it.counts:
             self.fault("ballots", own, f"instance {it.instance}, ballot {it.ballot}: {before} and {it.counts}")
-        hearing = self.nodes[own].hearing
-        beliefs = [(NOTHING, self.accepted.get((it.to, it.instance), NOTHING))]
         if it.instance == 0:
-            said = hearing.ever[it.to].has
-            far = hearing.beliefs(it.to, Far(it.has, it.view))
-            beliefs = [(one.has, larger(said, other.has)) for one, other in far]
-        if not any(within(smaller(must, it.counts), it.base) and within(it.base, may) for must, may in beliefs):
-            what = f"an offer in instance {it.instance} to {it.to} over {it.base}"
-            self.fault("base", own, f"{what}, of which is believed {beliefs}")
+            return self.wrote(own, it, False)
+        may = self.accepted.get((it.to, it.instance), NOTHING)
+        if not within(it.base, may):
+            self.fault("base", own, f"an offer in instance {it.instance} to {it.to} over {it.base}, which has {may}")
+
+    def wrote(self, own: int, it: Message, is_first: bool) -> None:
+        """A letter of instance 0 is told over what its receiver is believed to have."""
+        rule, _, what = self.nodes[own].hearing.wrote(it, is_first).partition(": ")
+        if rule:
+            self.fault(rule, own, what)
 
     def reply(self, own: int, it: Message, then: Far | None) -> None:
         """An acceptor's reply, of a node that was so far then; what it has accepted only grows."""

@@ -10,15 +10,14 @@ from . import carts
 from .check import Checker, Entry, Group
 from .clients import Client
 from .disks import flipped
-from .hearing import PATIENCE
 from .lines import FAULTY
 from .nodes import Node, Stuck
 from .objects import OWN, live_of
 
 # A run that takes longer, or so many rounds of ticks at its end, hangs.
 SECONDS, ROUNDS = 60, 400
-# How many lines more than those that make one silent come while it is away.
-AWAY = 24
+# So many times the others go on while one is away.
+AWAY = 60
 LOST = REPEATED = 0.1
 # Of the kills, how many are losses of power, and behind how many a bit flips.
 POWER, FLIPPED = 0.35, 0.2
@@ -165,9 +164,9 @@ class Run:
         mail = [it for it in self.pool if receiver(it) != own]
         elsewhere = ["", "# tick", f"# r{other} view 1 1 1 1 1 1 1 1", f"submit {other} 1 inc 7", f"decide {other} 0 9"]
         # What lines of another group say of it is none of this one's.
-        far, group = "has 99,99,99 view 99,99,99", self.group.replicas
-        elsewhere += [f"yes {group % 8 + 1} {other} {own} 0 1 {far}", f"known {group % 8 + 1} {other} {own} {far}"]
-        elsewhere += [f"ask {other} 1 total", f"submit {other}.1 1 inc 7", f"known {group} {other} {own} has 0 view 0"]
+        far, over, group = "has 99,99,99 view 99,99,99", "offer 0 tell 0", self.group.replicas
+        elsewhere += [f"yes {group % 8 + 1} {other} {own} 0 1 {far}", f"known {group % 8 + 1} {other} {own} {far} {over}"]
+        elsewhere += [f"ask {other} 1 total", f"submit {other}.1 1 inc 7", f"known {group} {other} {own} has 0 view 0 {over}"]
         elsewhere += [f"ask {other} 3 tags 1 at {own}.1", f"submit {other} 3 take 1", f"status {other}"]
         elsewhere += self.draw.sample(mail, min(3, len(mail)))
         faulty = [it + self.drawn_name() if it[:3] in ("sub", "tic", "del", "ask", "sta", "dec") else it for it in FAULTY]
@@ -260,24 +259,18 @@ class Run:
                 node.start()
 
     def away(self) -> None:
-        """One is down, or all that comes of it and for it is lost, while the others go on until it is silent for each,
-        and for some time."""
+        """One is down, or all that comes of it and for it is lost, while the others go on for some time."""
         gone = self.draw.choice(self.nodes)
         others = [it for it in self.nodes if it is not gone]
         self.note(("away", gone.own, ""))
         if gone.process and self.draw.random() < 0.5:
             self.cut_off(gone, [], "", 0)
-        while not all(self.misses(it.own, gone.own) for it in others):
+        for _ in range(AWAY * len(others)):
             self.go_on(self.draw.choice(self.nodes if gone.process else others), gone.own)
             self.in_time()
         self.note(("back", gone.own, ""))
         if not gone.process:
             gone.start()
-
-    def misses(self, own: int, gone: int) -> bool:
-        """Whether a node has heard enough lines without one that is away, and some more."""
-        known = self.checker.nodes[own].hearing.must
-        return known.heard - known.last[gone] >= PATIENCE + AWAY
 
     def go_on(self, node: Node, gone: int) -> None:
         """A node submits, ticks, and is given what is for it, and some of what is for others; or it is started. To
