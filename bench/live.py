@@ -13,6 +13,8 @@ from dataclasses import dataclass
 from pathlib import Path
 
 MEBIBYTE = 1 << 20
+# A pipe takes no more at once.
+PIPE = 1 << 16
 PAGE = os.sysconf("SC_PAGE_SIZE")
 # A group that is silent for so long sends nothing more.
 QUIET = 0.3
@@ -28,22 +30,35 @@ KINDS = ("offer", "yes", "no", "tell", "known")
 
 
 class Node:
-    """A node's process, its pipes, what of them is not written or not a whole line yet, and what it has noted."""
+    """A node's process, its pipes, what of them is not written or not a whole line yet, and what it has noted. More
+    options may be given to it."""
 
-    def __init__(self, program: Path, folder: Path, count: int, own: int) -> None:
+    def __init__(self, program: Path, folder: Path, count: int, own: int, *more: str) -> None:
         self.own, self.folder = own, folder / f"journal{own}"
         self.folder.mkdir()
         self.words: list[str | Path] = [program, "node", "--replicas", str(count), "--own", str(own)]
-        self.words += ["--journal", self.folder]
+        self.words += ["--journal", self.folder, *more]
+        # How many updates its view has, and how many of its own are in the last set that it learnt.
+        self.view = self.learnt = 0
+        self.status: list[str] = []
+        self.run()
+
+    def run(self) -> None:
+        """Starts its process on its journal."""
         self.process = subprocess.Popen(self.words, stdin=subprocess.PIPE, stdout=subprocess.PIPE)
         assert self.process.stdin and self.process.stdout
         self.input, self.output = self.process.stdin.fileno(), self.process.stdout.fileno()
         for pipe in (self.input, self.output):
             os.set_blocking(pipe, False)
         self.unwritten, self.held = bytearray(), bytearray()
-        # How many updates its view has, and how many of its own are in the last set that it learnt.
-        self.view = self.learnt = 0
-        self.status: list[str] = []
+
+    def kill(self) -> None:
+        """Kills its process, and closes the pipes."""
+        self.process.kill()
+        self.process.wait()
+        assert self.process.stdin and self.process.stdout
+        self.process.stdin.close()
+        self.process.stdout.close()
 
     def submit(self, count: int) -> None:
         self.unwritten += b"submit %d 1 inc 1\n" % self.own * count
@@ -80,7 +95,7 @@ class Node:
         """Writes as much as the pipe takes."""
         while self.unwritten:
             try:
-                del self.unwritten[: os.write(self.input, self.unwritten[:MEBIBYTE])]
+                del self.unwritten[: os.write(self.input, self.unwritten[:PIPE])]
             except BlockingIOError:
                 return
 
@@ -101,10 +116,10 @@ class Node:
 
 class Group:
     """Nodes, the pipes between them, how many lines and bytes of each kind of message went over these, and who is away:
-    what goes to that is counted, and lost."""
+    what goes to that is counted, and lost. More options may be given to each node."""
 
-    def __init__(self, program: Path, folder: Path, count: int) -> None:
-        self.nodes = [Node(program, folder, count, own) for own in range(count)]
+    def __init__(self, program: Path, folder: Path, count: int, *more: str) -> None:
+        self.nodes = [Node(program, folder, count, own, *more) for own in range(count)]
         self.lines: Counter[str] = Counter()
         self.bytes: Counter[str] = Counter()
         self.away: set[int] = set()
@@ -119,10 +134,14 @@ class Group:
                 self.nodes[own].note(line)
                 continue
             verb, _, _, to, _ = line.split(b" ", 4)
-            if int(to) not in self.away:
-                self.nodes[int(to)].unwritten += line + b"\n"
+            self.send(own, int(to), line + b"\n")
             self.lines[verb.decode()] += 1
             self.bytes[verb.decode()] += len(line) + 1
+
+    def send(self, _own: int, to: int, line: bytes) -> None:
+        """Hands one line of a node on to the node that it is for."""
+        if to not in self.away:
+            self.nodes[to].unwritten += line
 
     def turn(self, patience: float) -> bool:
         """Moves what there is to move, and returns whether there was any before the patience was at its end."""
@@ -219,10 +238,9 @@ class Group:
                 sys.exit(f"the nodes say that they sent {said} times {kind}, and {self.lines[kind]} were handed on")
 
     def end(self) -> None:
-        for it in self.nodes:
-            it.process.kill()
-            it.process.wait()
         self.poll.close()
+        for it in self.nodes:
+            it.kill()
 
 
 def number_behind(words: list[str], name: str) -> int:

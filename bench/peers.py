@@ -15,7 +15,11 @@ from collections.abc import Callable
 from dataclasses import dataclass, field
 from pathlib import Path
 from types import TracebackType
-from typing import Any, Self
+from typing import TYPE_CHECKING, Any
+
+if TYPE_CHECKING:
+    # Python has it from 3.11 on.
+    from typing import Self
 
 HOST = "127.0.0.1"
 # Redis takes these ports from the first on, one each, and etcd two for each member.

@@ -4,8 +4,8 @@ A log's entry is a word, a node's number and a line: `start`, a life begins, whe
 journal's groups; `given`, a line on its standard input; `out`, one that it printed; `said`, one on standard error;
 `killed`; `power`, what its loss left of the journal; `flipped`, what a start came to where a bit of it had flipped;
 `ended`, with the status; `told`, a line that the cart program beside it was told; `cart`, one that this was asked, and
-behind a `: ` what it answered; `away`, from here on nothing comes to a node or of it, until `back`; and `last`, from
-which on nothing is submitted. The first word of a fault is the rule that is broken.
+behind a `: ` what it answered; `weather`, that of the network; `away`, from here on nothing comes to a node or of it,
+until `back`; and `last`, from which on nothing is submitted. The first word of a fault is the rule that is broken.
 """
 from __future__ import annotations
 
@@ -14,7 +14,7 @@ from collections import Counter, defaultdict, deque
 from dataclasses import dataclass, field
 
 from . import carts
-from .hearing import Far, Hearing, is_idle, larger, within
+from .hearing import Far, Hearing, is_idle, lacks_base, larger, within
 from .lines import (
     FAULTY, FORMS, NOTHING, Counts, Malformed, Message, Standing, apart, read_counts, read_message, read_note,
     read_standing,
@@ -114,6 +114,14 @@ def is_take(content: str) -> bool:
     return content.split(" ")[1] == "take"
 
 
+def asks_again(line: str) -> bool:
+    """Whether a line is a `known` that a letter may answer, since its sender lacks what another was told over."""
+    try:
+        return line.startswith("known ") and lacks_base(read_message(line))
+    except Malformed:
+        return False
+
+
 def has_update(view: Counts, update: str) -> bool:
     """Whether a view has the update with this id."""
     replica, _, number = update.partition(".")
@@ -154,7 +162,7 @@ class Checker:
     def take_power(self, _own: int, _line: str) -> None:
         """What a node has to keep is the same after it, and what it has to say where it is away."""
 
-    take_away = take_back = take_power
+    take_away = take_back = take_weather = take_power
 
     def take_flipped(self, own: int, line: str) -> None:
         if not TOLD.fullmatch(line):
@@ -193,7 +201,7 @@ class Checker:
         mine = words[:2] in ([it, str(own)] for it in ("submit", "decide", "ask", "update", "status"))
         mine = mine or words[0] == "submit" and words[1].startswith(f"{own}.")
         here = [str(self.group.replicas), str(own)]
-        mailed = words[0] in FORMS and words[1:4:2] == here
+        mailed = words[1:4:2] == here and (words[0] in ("offer", "yes", "no", "tell") or asks_again(line))
         if line in FAULTY:
             return node.to_say.append(f"line {node.line}: {FAULTY[line]}" + (f" @{name}" if name else ""))
         self.hear(own, line)

@@ -44,6 +44,11 @@ def is_idle(it: Message, here: Far) -> bool:
     return it.verb == "tell" and (not within(it.base, here.view) or within(it.counts, here.view))
 
 
+def lacks_base(known: Message) -> bool:
+    """Whether a `known` says that its sender lacks what the letter was told over that it answers."""
+    return not within(known.offer, known.has) or not within(known.tell, known.view)
+
+
 def is_answer(known: Message, it: Message) -> bool:
     """Whether a `known` names over what this message was told."""
     bases = (it.base, NOTHING) if it.verb == "offer" else (NOTHING, it.base)
@@ -317,6 +322,12 @@ class Hearing:
             self.handle(found[0].line - 1, before, len(found) == 1)
             self.handle(found[0].line, before, False)
         self.open, self.has_set = 0 if self.open == ballot else self.open, True
+
+    def missed(self, replica: int) -> int:
+        """How many messages of its group it has surely heard since the last one of a replica."""
+        many = min(it.handled for it in self.beliefs)
+        heard = [it.message.sender for it in self.lines[:many] if it.message]
+        return heard[::-1].index(replica) if replica in heard else len(heard)
 
     # What it writes to the others
 

@@ -2,8 +2,11 @@
 from __future__ import annotations
 
 import random
+import subprocess
+import tempfile
 import time
 from collections import Counter
+from functools import cache
 from pathlib import Path
 
 from . import carts
@@ -11,14 +14,18 @@ from .check import Checker, Entry, Group
 from .clients import Client
 from .disks import flipped
 from .lines import FAULTY
+from .network import Network, drawn_weather, receiver
 from .nodes import Node, Stuck
 from .objects import OWN, live_of
 
 # A run that takes longer, or so many rounds of ticks at its end, hangs.
 SECONDS, ROUNDS = 60, 400
-# So many times the others go on while one is away.
-AWAY = 60
-LOST = REPEATED = 0.1
+# How many lines come at least while one is away, and how many submissions are made then at most.
+AWAY, MOST_AWAY = 88, 60
+# How many submissions more one node makes where one is slow.
+STREAM = 15
+# While all lines that are under way are late, a node ticks once in so many rounds.
+IDLE = 60
 # Of the kills, how many are losses of power, and behind how many a bit flips.
 POWER, FLIPPED = 0.35, 0.2
 QUESTIONS = ("1 total", "1 atleast 7", "2 largest", "3 size", "3 items", "3 has 2", "1 items", "2 total")
@@ -33,12 +40,15 @@ def drawn_group(draw: random.Random, nodes: int | None) -> Group:
     return Group(replicas, draw.choice((0, 0, 1, 2)), draw.choice((10, 1_000_000, 1_000_000)), votes)
 
 
-def sender(message: str) -> int:
-    return int(message.split(" ")[2])
-
-
-def receiver(message: str) -> int:
-    return int(message.split(" ")[3])
+@cache
+def bases_of(program: str) -> str:
+    """What stands behind how far another is in a `known` of no letter: bases of nothing, if the program reads them."""
+    bases = " offer 0 tell 0"
+    with tempfile.TemporaryDirectory() as folder:
+        words = [program, "node", "--replicas", "1", "--own", "0", "--journal", folder]
+        line = f"known 1 0 0 has 0 view 0{bases}\n".encode()
+        came = subprocess.run(words, input=line, capture_output=True, timeout=SECONDS, check=True)
+    return "" if came.stderr else bases
 
 
 class Run:
@@ -48,11 +58,13 @@ class Run:
     def __init__(
         self, program: str, seed: int, nodes: int | None, folder: Path, preload: dict[str, str], cart: list[str]
     ) -> None:
-        self.draw = random.Random(seed)
+        self.program, self.draw = program, random.Random(seed)
         self.group = drawn_group(self.draw, nodes)
         self.compact, self.has_away = seed % 2, seed % 4 > 1 and self.group.replicas > 1
         self.checker, self.log = Checker(self.group), []
-        self.pool: list[str] = []
+        self.network = Network(self.draw, drawn_weather(seed, self.group.replicas))
+        # The round of the last tick while all was late; and how many submissions were made while one was away.
+        self.ticked = self.alone = 0
         self.figures: Counter[str] = Counter()
         self.nodes = []
         for own in range(self.group.replicas):
@@ -64,6 +76,7 @@ class Run:
         # Of some nodes, whose clients number their submissions.
         self.clients = {it.own: Client(it.own) for it in self.nodes if self.draw.random() < 0.6}
         self.until = time.monotonic() + SECONDS
+        self.note(("weather", 0, str(self.network.weather)))
 
     def options(self, own: int) -> list[str]:
         it = self.group
@@ -83,6 +96,9 @@ class Run:
     def drawn_work(self) -> list[tuple[int, str]]:
         work = [(own, "submit") for own in range(self.group.replicas) for _ in range(self.draw.randint(1, 7))]
         work += [(own, "ask") for own in range(self.group.replicas) for _ in range(3)]
+        if self.network.weather.slow is not None:
+            # Another goes on while the slow one has not answered yet.
+            work += [(self.draw.randrange(self.group.replicas), "submit")] * STREAM
         for number in range(self.group.commits):
             owns = range(self.group.replicas)
             proposals = [(own, f"decide {own} {number} {self.draw.randint(1, 2)}") for own in owns]
@@ -161,12 +177,14 @@ class Run:
     def passed_line(self, own: int) -> str:
         """A line that this node has to pass over, or to tell a fault of."""
         other = (own + 1) % self.group.replicas
-        mail = [it for it in self.pool if receiver(it) != own]
+        mail = [it for it in self.network.due() if receiver(it) != own]
         elsewhere = ["", "# tick", f"# r{other} view 1 1 1 1 1 1 1 1", f"submit {other} 1 inc 7", f"decide {other} 0 9"]
         # What lines of another group say of it is none of this one's.
-        far, over, group = "has 99,99,99 view 99,99,99", "offer 0 tell 0", self.group.replicas
-        elsewhere += [f"yes {group % 8 + 1} {other} {own} 0 1 {far}", f"known {group % 8 + 1} {other} {own} {far} {over}"]
-        elsewhere += [f"ask {other} 1 total", f"submit {other}.1 1 inc 7", f"known {group} {other} {own} has 0 view 0 {over}"]
+        far, group, over = "has 99,99,99 view 99,99,99", self.group.replicas, bases_of(self.program)
+        strange = f"{group % 8 + 1} {other} {own}"
+        elsewhere += [f"yes {strange} 0 1 {far}", f"known {strange} {far}{over}"]
+        elsewhere += [f"ask {other} 1 total", f"submit {other}.1 1 inc 7"]
+        elsewhere += [f"known {group} {other} {own} has 0 view 0{over}"]
         elsewhere += [f"ask {other} 3 tags 1 at {own}.1", f"submit {other} 3 take 1", f"status {other}"]
         elsewhere += self.draw.sample(mail, min(3, len(mail)))
         faulty = [it + self.drawn_name() if it[:3] in ("sub", "tic", "del", "ask", "sta", "dec") else it for it in FAULTY]
@@ -176,16 +194,7 @@ class Run:
 
     def post(self, sent: list[str]) -> None:
         """Puts messages onto the network."""
-        self.pool.extend(sent)
-
-    def taken_mail(self, own: int, most: int) -> list[str]:
-        """So many messages to a node, off the network: some are lost, and some stay there to come again."""
-        mine = [at for at, line in enumerate(self.pool) if receiver(line) == own]
-        chosen = self.draw.sample(mine, min(most, len(mine)))
-        lines = [self.pool[at] for at in chosen if self.draw.random() >= LOST]
-        gone = {at for at in chosen if self.draw.random() >= REPEATED}
-        self.pool = [line for at, line in enumerate(self.pool) if at not in gone]
-        return lines
+        self.network.post(sent)
 
     def taken_work(self, own: int, most: int) -> list[str]:
         """So many lines of the workload that are this node's, behind what its client sends again."""
@@ -205,12 +214,16 @@ class Run:
 
     def step(self) -> None:
         """One node is given a few lines, or is killed. What comes to one that is down is lost."""
+        self.network.round += 1
         if self.draw.random() < 0.06:
             return self.kill(self.draw.choice(self.nodes))
-        if not self.pool:
+        if not self.network.pool:
             return self.tick()
-        own = self.draw.choice((receiver(self.draw.choice(self.pool)), self.draw.randrange(self.group.replicas)))
-        node, lines = self.nodes[own], self.taken_mail(own, self.draw.choice((1, 1, 1, 2, 4)))
+        likely = [self.draw.choice(due)] if (due := self.network.due()) else []
+        own = self.draw.choice((*map(receiver, likely), self.draw.randrange(self.group.replicas)))
+        if self.network.is_still(own):
+            return
+        node, lines = self.nodes[own], self.network.taken(own, self.draw.choice((1, 1, 1, 2, 4)))
         if node.process:
             lines += self.taken_work(node.own, 1) if self.draw.random() < 0.3 else []
             lines += [self.passed_line(node.own)] if self.draw.random() < 0.1 else []
@@ -221,7 +234,7 @@ class Run:
     def kill(self, node: Node) -> None:
         """Kills a node in the midst of some lines, or starts one that is down; that may be killed at its start."""
         if node.process:
-            lines = self.taken_mail(node.own, self.draw.randint(0, 4))
+            lines = self.network.taken(node.own, self.draw.randint(0, 4))
             lines += self.taken_work(node.own, self.draw.randint(0, 2))
             self.draw.shuffle(lines)
             half = f"submit {node.own} 1 inc 9" if self.draw.random() < 0.3 else ""
@@ -251,42 +264,54 @@ class Run:
             journal.write_bytes(whole)
 
     def tick(self) -> None:
-        """Nothing moves: timers run out, and nodes that are down may come back."""
+        """Nothing moves: timers run out, and nodes that are down may come back. One that stands still does neither."""
+        self.network.round += 1
         for node in self.nodes:
+            if self.network.is_still(node.own):
+                continue
             if node.process:
                 self.post(node.give([*self.taken_work(node.own, 1), "tick"]))
             elif self.draw.random() < 0.5:
                 node.start()
 
     def away(self) -> None:
-        """One is down, or all that comes of it and for it is lost, while the others go on for some time."""
+        """One is down, or all that comes of it and for it is lost, while the others go on until it is silent for each,
+        and for some time."""
         gone = self.draw.choice(self.nodes)
         others = [it for it in self.nodes if it is not gone]
         self.note(("away", gone.own, ""))
         if gone.process and self.draw.random() < 0.5:
             self.cut_off(gone, [], "", 0)
-        for _ in range(AWAY * len(others)):
+        while not all(self.misses(it.own, gone.own) for it in others):
             self.go_on(self.draw.choice(self.nodes if gone.process else others), gone.own)
             self.in_time()
         self.note(("back", gone.own, ""))
         if not gone.process:
             gone.start()
 
+    def misses(self, own: int, gone: int) -> bool:
+        """Whether a node has heard enough lines without one that is away, and some more."""
+        return self.checker.nodes[own].hearing.missed(gone) >= AWAY
+
     def go_on(self, node: Node, gone: int) -> None:
         """A node submits, ticks, and is given what is for it, and some of what is for others; or it is started. To
         one that is away nothing comes, and what it sends is lost."""
+        self.network.round += 1
+        if self.network.is_still(node.own):
+            return
         if not node.process:
             return node.start()
-        lines = [self.drawn_line(node.own, "submit")] if self.draw.random() < 0.2 else []
+        submits = self.draw.random() < 0.2 and self.alone < MOST_AWAY
+        self.alone += submits
+        lines = [self.drawn_line(node.own, "submit")] if submits else []
         lines += ["tick"] if self.draw.random() < 0.3 else []
         if node.own != gone:
-            others = [it for it in self.pool if receiver(it) != node.own]
+            others = [it for it in self.network.due() if receiver(it) != node.own]
             lines += self.draw.sample(others, min(len(others), self.draw.randint(0, 4)))
-            lines += self.taken_mail(node.own, self.draw.choice((1, 2, 4)))
+            lines += self.network.taken(node.own, self.draw.choice((1, 2, 4)))
         self.draw.shuffle(lines)
         self.post(node.give(lines))
-        late = [it for it in self.pool if receiver(it) == gone][:-4]
-        self.pool = [it for it in self.pool if sender(it) != gone and it not in late]
+        self.network.lose_of(gone)
 
     def settle(self) -> None:
         """No more kills: all learn all. Each node says how it stands, and submits once more, so that it shows its
@@ -311,14 +336,23 @@ class Run:
     def learn_all(self) -> None:
         """Messages come, and nodes tick, until all views are equal and have all submissions."""
         for _ in range(ROUNDS):
-            while self.pool:
-                own = receiver(self.pool[0])
-                self.post(self.nodes[own].give(self.taken_mail(own, 4)))
+            while self.network.pool:
+                self.deliver_next()
                 self.in_time()
             self.tick()
-            if not any(it.startswith("offer") for it in self.pool) and self.is_settled():
+            if not any(it.line.startswith("offer") for it in self.network.pool) and self.is_settled():
                 return
         raise Stuck(f"views do not become equal: {[it.view for it in self.checker.nodes]}")
+
+    def deliver_next(self) -> None:
+        """Gives the next lines to whom they are for. If all are late, or for a node that stands still, nothing but time
+        passes, and in some rounds the timer of a node runs out."""
+        self.network.round += 1
+        if (own := self.network.next_receiver()) is not None:
+            return self.post(self.nodes[own].give(self.network.taken(own, 4)))
+        if self.network.round >= self.ticked + IDLE:
+            self.ticked, node = self.network.round, self.draw.choice(self.nodes)
+            self.post([] if self.network.is_still(node.own) else node.give(["tick"]))
 
     def is_settled(self) -> bool:
         views = {it.view for it in self.checker.nodes}

@@ -7,4 +7,5 @@ pub mod Together
 pub mod Crashing
 pub mod JournalSteps
 pub mod Restarting
+mod Sending
 pub mod lemmas

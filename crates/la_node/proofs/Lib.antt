@@ -3,6 +3,7 @@ pub mod Deciding
 mod Refusing
 mod Growing
 mod Kept
+mod LinkRuns
 mod Looking
 mod SubmittingOnce
 mod Participants

@@ -8,4 +8,5 @@ pub mod Accepting
 pub mod Telling
 pub mod Steps
 pub mod Links
+pub mod LinkRuns
 pub mod Resuming

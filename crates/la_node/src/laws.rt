@@ -1,5 +1,6 @@
 // What holds of a node and its steps: laws over the definitions, which no code runs.
 ghost use Rattle.std.specs.Prelude.{◌↔◌, IsTrue};
+ghost use Rattle.la_node.specs.LinkRuns.{BeliefsAreBounded, LackingIsBelieved};
 ghost use Rattle.la_node.specs.Nodes.{NodeState, IsNode};
 ghost use Rattle.la_node.specs.Resuming.{may_resume_node};
 ghost use Rattle.la_node.specs.Steps.{KeptListsLeadOn, KeptListsArePlayedAgain, StepViewsGrow};
@@ -39,4 +40,12 @@ pub fn refused_calls_are_no_steps()
 /// decides whether a replica and a shelf are those of a node.
 pub fn nodes_may_be_resumed()
     ensures { (node : NodeState) → IsTrue (may_resume_node node) ↔ IsNode node }
+{}
+
+/// Over whatever a node was told, wrote and asked: a replica is believed to have no more than where the node began, what
+/// letters told that replica, what it said of itself, and where the node was when its timer ran out; and no more than it
+/// says, once it answered that it lacks what a letter was told over.
+pub fn beliefs_are_of_what_was_sent()
+    ensures bounded { BeliefsAreBounded }
+    ensures lacking { LackingIsBelieved }
 {}

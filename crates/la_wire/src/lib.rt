@@ -9,12 +9,13 @@
 //! | `yes G F T I B has C view C` | |
 //! | `no G F T I B has C view C base C;U;U..` | |
 //! | `tell G F T I B has C view C base C;U;U..` | |
-//! | `known G F T has C view C` | |
+//! | `known G F T has C view C offer C tell C` | |
 //!
 //! G is how many replicas the group has, F who sends it, T to whom, I its instance and B the ballot's
 //! number. A C is counts as one word: up to eight numbers of 32 bits with `,` between them, how many updates of
 //! replicas 0, 1 and so on, without the zeros at the end; behind `has` what F has accepted, behind `view` what
-//! its view has, behind `base` what the updates go over. An update U is `P.N O` and what it does, O of 16
+//! its view has, behind `base` what the updates go over; behind `offer` and `tell` of `known` what the letter went
+//! over that it answers, `0` where that was of the other kind. An update U is `P.N O` and what it does, O of 16
 //! bits: `inc X`, `dec X`, `raise X`, `put X`, `remove T ..` and `mark`, as in a script; `own H`, an operation of one's own,
 //! H two hexadecimal digits for each of its bytes, or `-` for none; and of an adopt-commit object `vote X`, or `sole X` where
 //! its voter saw that value alone, X of 64 bits.
@@ -46,9 +47,10 @@
 //! | `submit R O take X` | as a submission: X is taken out of object O by the updates that put it |
 //! | `submit R.K O take X` | the same, under a number |
 //!
-//! Behind `open` or `shut` stands ` peer P has C view C` for each other replica of the group, as far as is known, and
-//! then what the process counted: ` in offer N yes N no N tell N known N out offer N yes N no N tell N known N refused N
-//! written N syncs N`.
+//! Behind `open` or `shut` stands ` peer P has C view C unheard N` for each other replica of the group: how far it said
+//! that it is, and how many updates were sent to it, offered and told, that it did not say to have. Over 65,536 of these
+//! nothing more is told to it until it is heard. Then stands what the process counted: ` in offer N yes N no N tell N
+//! known N out offer N yes N no N tell N known N refused N written N syncs N`.
 //!
 //! `specs/Messages.antt` has what letters say, `specs/Updates.antt` and `specs/MessageLines.antt` the lines,
 //! `specs/Questions.antt` and `specs/Notes.antt` what a client asks and is answered, `specs/Told.antt` how it reads an update
