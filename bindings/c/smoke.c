@@ -439,7 +439,7 @@ static void check_lines(lattice_node *node) {
 
 /* An offer over more than replica 1 of three has, which it does not take: it tells how far it is. */
 static void check_base(lattice_node *node) {
-    const char *told = "known 3 1 0 has 0 view 0";
+    const char *told = "known 3 1 0 has 0 view 0 offer 1 tell 0";
     uint8_t to, line[LINE_ROOM];
     size_t len;
     CHECK(received(node, "offer 3 0 1 0 5 has 1 view 0 base 1;0.2 1 inc 5") == LATTICE_OK);

@@ -19,7 +19,7 @@ REQUESTS = (
     b"submit 1 9 own -", b"submit 1 9 own 0a0", b"submit 1 9 own 0a0b", b"submit 1 3 remove 0.0", b"decide 0 1 2",
     b"decide 0 256 2", b"ask 0 1 total", b"ask 0 1 atleast 5", b"ask 0 1 atleast", b"ask  1 total", b"deliver 0",
     b"deliver x", b"submit", b"status 0", b"ask 0 3 tags 7", b"update 0 0.1", b"", b"known", b"offer", b"tell;",
-    b"known 1 0 0 has 0 view 0;",
+    b"known 1 0 0 has 0 view 0 offer 0 tell 0;",
 )
 
 

@@ -102,7 +102,7 @@ class Member:
     # How far the objects have the view.
     folded: list[int] = field(default_factory=lambda: list(NOTHING))
     objects: dict[int, Object] = field(default_factory=dict)
-    # By replica how far it is, as lines said that were taken.
+    # By replica how far it is, as the last line of it says that was taken.
     heard: list[Counts] = field(default_factory=lambda: [NOTHING] * 8)
     # How far its own lines said that it is.
     said_has: Counts = NOTHING

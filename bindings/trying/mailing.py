@@ -5,7 +5,7 @@ from .damage import draw_line
 from .drawing import Draw
 from .groups import Member, require
 from .journals import Taken
-from .owing import Far, is_within, larger
+from .owing import is_within, larger
 from .playing import UNTOUCHED, Answer, Arguments, Wrong
 from .reading import MAX_OWN, MAX_SET_LINE, REPLICAS, VOTES, Counts, Fault, Message, Update, read
 from .rules import NAMES, expect, rule
@@ -40,7 +40,7 @@ def take(member: Member, line: bytes, message: Message) -> None:
     if message.instance == 0 and not member.is_idle(message):
         member.told = larger(member.told, counts_of(message))
     if message.sender < len(member.heard):
-        member.heard[message.sender] = larger(member.heard[message.sender], message.view)
+        member.heard[message.sender] = message.view
     member.may_have_grown = True
 
 
@@ -103,8 +103,7 @@ def check_line(member: Member, to: int, line: bytes) -> None:
     require(said == (member.group.config.replicas, member.own, to), "the group, {} and {}: {!r}", member.own, to, line)
     check_progress(member, message)
     if message.verb == "known":
-        is_owed = member.owing.stands(to, Far(message.has, message.view))
-        require(is_owed, "no `known` that is not owed: {!r}", line)
+        require(member.owing.stands(message), "no `known` that is not owed: {!r}", line)
         return
     require(to < member.group.config.replicas and to != member.own, "a line for another node: {!r}", line)
     require(message.instance < member.group.instances, "an instance that there is: {!r}", line)

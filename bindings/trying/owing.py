@@ -47,6 +47,11 @@ def may_be_idle(message: Message, least: Far, most: Far) -> bool:
     return not is_within(message.base, least.view) or all(is_counted(it, most.view) for it in message.updates)
 
 
+def bases_of(message: Message) -> tuple[Counts, Counts]:
+    """Over what an offer is told, or a tell."""
+    return (message.base, NOTHING) if message.verb == "offer" else (NOTHING, message.base)
+
+
 @dataclass(frozen=True)
 class Owed:
     """A message, and whether it may be taken without an answer, by a reply, or by how far the node is."""
@@ -86,10 +91,13 @@ class Owing:
             self.taken, self.done = self.taken[first:], {it - first for it in found}
         return bool(found)
 
-    def stands(self, to: int, here: Far) -> bool:
-        """Takes how far the node said to another that it is."""
+    def stands(self, known: Message) -> bool:
+        """Takes how far the node said to another that it is, and over what the letter was told that this answers."""
+        here, over = Far(known.has, known.view), (known.offer, known.tell)
+
         def may(it: Owed) -> bool:
-            return it.may_stand and it.message.sender == to and is_surely_idle(it.message, here, here)
+            is_it = it.may_stand and it.message.sender == known.to and bases_of(it.message) == over
+            return is_it and is_surely_idle(it.message, here, here)
 
         return self.answer(may)
 

@@ -39,7 +39,7 @@ class Update:
 @dataclass(frozen=True, slots=True)
 class Message:
     """A message: how far its sender is (`has`, `view`), and of an offer, a No and a tell the updates over a base. A
-    `known` has no instance and no ballot."""
+    `known` has no instance and no ballot; it says over what the offer was told that it answers, or the tell."""
 
     verb: str
     group: int
@@ -51,6 +51,8 @@ class Message:
     view: Counts
     base: Counts = NOTHING
     updates: tuple[Update, ...] = ()
+    offer: Counts = NOTHING
+    tell: Counts = NOTHING
 
 
 def number(word: bytes, low: int, high: int) -> int:
@@ -164,17 +166,14 @@ def message_in(verb: str, words: Words, parts: list[bytes]) -> Message:
 
 
 def known_in(line: bytes) -> Message:
-    """How far another is, by a line that begins with `known`."""
+    """How far another is, and what that answers, by a line that begins with `known`."""
     words = Words(line)
     words.take()
     group, sender, to = words.number(1, REPLICAS), words.number(0, U8), words.number(0, U8)
     has, view = words.counts_behind(b"has"), words.counts_behind(b"view")
-    if words.taken < len(words.words):
-        # over what the letter was told that it answers: a program from before that says nothing of it
-        words.counts_behind(b"offer")
-        words.counts_behind(b"tell")
+    offer, tell = words.counts_behind(b"offer"), words.counts_behind(b"tell")
     words.end()
-    return Message("known", group, sender, to, 0, 0, has, view)
+    return Message("known", group, sender, to, 0, 0, has, view, offer=offer, tell=tell)
 
 
 def tags_in(words: list[bytes]) -> None:

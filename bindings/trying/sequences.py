@@ -16,7 +16,7 @@ MODULES = (asking, keeping, mailing, submitting)
 # What is called beside a node's rules.
 BESIDE = {"version", "node_new", "node_recover", "node_free"}
 ROUNDS = 200
-# Of so many rounds one is away, in which each other is handed more lines than make one silent.
+# For so many rounds one is away, so that it lacks what many letters told it.
 AWAY_ROUNDS = 40
 
 
@@ -185,7 +185,7 @@ class Sequence:
                 self.call(member, "receive", (line,))
 
     def leave_one_out(self) -> None:
-        """A node is away, and what is for it is lost, while the others go on, until it is silent for them."""
+        """A node is away, and what is for it is lost, while the others go on."""
         group = self.draw.one_of(self.groups)
         away = self.draw.one_of(group.members)
         others = [it for it in group.members if it is not away and not it.is_gone]

@@ -85,7 +85,7 @@ class Seen:
         """A life begins."""
         self.line, self.passed, self.returns = 0, True, None
         self.names.clear()
-        self.hearing.begin(Far(self.has, self.view), self.exact and self.firm)
+        self.hearing.begin(Far(self.has, self.view), self.far())
         self.untold.clear()
         self.came.clear()
         self.sent.clear()
@@ -115,7 +115,7 @@ def is_take(content: str) -> bool:
 
 
 def asks_again(line: str) -> bool:
-    """Whether a line is a `known` that a letter answers, since its sender lacks the base of another."""
+    """Whether a line is a `known` that a letter may answer, since its sender lacks what another was told over."""
     try:
         return line.startswith("known ") and lacks_base(read_message(line))
     except Malformed:
@@ -210,8 +210,11 @@ class Checker:
             node.awaited.append((node.line, words))
 
     def hear(self, own: int, line: str) -> None:
-        """A node takes note of how far the sender of a line of its group is, whoever that is for."""
+        """A node takes note of how far the sender of a line of its group is, whoever that is for; or it is given a
+        tick."""
         node = self.nodes[own]
+        if line == "tick":
+            return node.hearing.ticked(node.line)
         try:
             it = read_message(line) if line.split(" ", 1)[0] in FORMS else None
         except Malformed:
@@ -226,6 +229,13 @@ class Checker:
         if it := node.hearing.handled(line, node.far()):
             rule = "known" if is_idle(it.message, it.most or it.least) else "replies"
             self.fault(rule, own, f"no answer to line {it.line}, {it.message}")
+        self.mended(own)
+
+    def mended(self, own: int) -> None:
+        """Where a replica said that it lacks something, that was written before anything else."""
+        if it := self.nodes[own].hearing.unmended:
+            self.fault("lack", own, f"nothing mends what line {it.line} lacks, {it.message}")
+            self.nodes[own].hearing.unmended = None
 
     def take_killed(self, own: int, _line: str) -> None:
         node = self.nodes[own]
@@ -270,6 +280,7 @@ class Checker:
                 self.message(own, read_message(line))
         except Malformed as fault:
             self.fault("form", own, f"{fault}: {line}")
+        self.mended(own)
 
     def note(self, own: int, line: str) -> None:
         """What answers a request ends in its name, and nothing else does."""
@@ -456,7 +467,7 @@ class Checker:
         node.lost_numbers = {number for number in node.lost_numbers if number <= it.submitted}
 
     def are_known(self, own: int, it: Standing) -> bool:
-        """Whether of all others just so much is known as the node was told."""
+        """Whether of all others just so much is known as the node was told, and so much unheard as it wrote since."""
         others = [peer for peer in range(self.group.replicas) if peer != own]
         return list(it.peers) == others and self.nodes[own].hearing.stands(it.peers)
 
@@ -508,8 +519,9 @@ class Checker:
     def message(self, own: int, it: Message) -> None:
         wrong = it.group != self.group.replicas or it.sender != own or it.to >= it.group
         wrong = wrong or it.instance > 2 * self.group.commits or it.verb == "tell" and it.instance > 0
-        wrong = wrong or it.verb != "known" and it.ballot == 0
-        if wrong or any(any(them[it.group :]) for them in (it.has, it.view, it.counts, *it.over)):
+        wrong = wrong or it.verb != "known" and it.ballot == 0 or any(it.has[it.group :] + it.view[it.group :])
+        wrong = wrong or any(it.offer[it.group :] + it.tell[it.group :])
+        if wrong or any(it.counts[it.group :]):
             raise Malformed("not a message of this node")
         self.nodes[own].sent[it.verb] += 1
         before = self.nodes[own].far()
@@ -517,8 +529,8 @@ class Checker:
         for update in it.updates:
             self.content(it.instance, update)
         if it.verb == "known":
-            if not self.nodes[own].hearing.answered(it.to, Far(it.has, it.view), it.over):
-                self.fault("known", own, f"an answer to no message of {it.to}")
+            if not self.nodes[own].hearing.answered(it):
+                self.fault("known", own, f"an answer to no message of {it.to} over offer {it.offer}, tell {it.tell}")
         elif it.verb == "tell":
             self.tell(own, it)
         elif it.verb == "offer":
@@ -529,6 +541,7 @@ class Checker:
     def progress(self, own: int, has: Counts, view: Counts, is_reply: bool = False) -> None:
         """How far a node says that it is: it never shrinks, and is what it has said of its steps before."""
         node = self.nodes[own]
+        node.hearing.said(Far(has, view))
         if not within(node.has, has) or node.firm and not is_reply and has != node.has:
             self.fault("progress", own, f"has {has} after {node.has}")
         if not within(node.view, view) or node.exact and view != node.view:
@@ -537,29 +550,29 @@ class Checker:
         node.firm = node.exact = True
 
     def tell(self, own: int, it: Message) -> None:
-        """A tell goes over what its receiver's view is known to have, or letters told it, and not once more if that is
-        known to have it all."""
+        """A tell goes over what its receiver's view is believed to have: to each other once, and then where a tick or a
+        lack asks for it."""
         self.learn(own, 0, it.ballot, it.counts)
-        node = self.nodes[own]
-        is_again = it.to not in node.untold and node.hearing.is_known_to_have(it.to, it.counts)
-        if not node.hearing.tells(it, it.to in node.untold):
-            self.fault("base", own, f"a tell of {it.counts} to {it.to} over {it.base}")
-        if is_again:
-            self.fault("again", own, f"a tell of {it.counts} to {it.to}, whose view has it")
-        node.untold.discard(it.to)
+        self.wrote(own, it, it.to in self.nodes[own].untold)
+        self.nodes[own].untold.discard(it.to)
 
     def offer(self, own: int, it: Message) -> None:
-        """An offer goes over what its receiver has said that it has accepted, in instance 0 on whatever line; or there
-        over what letters told it."""
+        """An offer goes over what its receiver has said that it has accepted; or in instance 0 over what that is believed
+        to have."""
         before = self.offered.setdefault((own, it.instance, it.ballot), it.counts)
         if before != it.counts:
             self.fault("ballots", own, f"instance {it.instance}, ballot {it.ballot}: {before} and {it.counts}")
         if it.instance == 0:
-            is_right = self.nodes[own].hearing.tells(it, False)
-        else:
-            is_right = within(it.base, self.accepted.get((it.to, it.instance), NOTHING))
-        if not is_right:
-            self.fault("base", own, f"an offer in instance {it.instance} of {it.counts} to {it.to} over {it.base}")
+            return self.wrote(own, it, False)
+        may = self.accepted.get((it.to, it.instance), NOTHING)
+        if not within(it.base, may):
+            self.fault("base", own, f"an offer in instance {it.instance} to {it.to} over {it.base}, which has {may}")
+
+    def wrote(self, own: int, it: Message, is_first: bool) -> None:
+        """A letter of instance 0 is told over what its receiver is believed to have."""
+        rule, _, what = self.nodes[own].hearing.wrote(it, is_first).partition(": ")
+        if rule:
+            self.fault(rule, own, what)
 
     def reply(self, own: int, it: Message, then: Far | None) -> None:
         """An acceptor's reply, of a node that was so far then; what it has accepted only grows."""

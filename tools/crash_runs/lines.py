@@ -16,15 +16,12 @@ FORMS = {
     "yes": (5, ("has", "view")),
     "no": (5, ("has", "view", "base")),
     "tell": (5, ("has", "view", "base")),
-    "known": (3, ("has", "view")),
+    "known": (3, ("has", "view", "offer", "tell")),
 }
 HEADS = {
     verb: re.compile(verb + f" {NUMBER}" * numbers + "".join(f" {it} ([0-9,]+)" for it in words))
     for verb, (numbers, words) in FORMS.items()
 }
-# Behind a `known` there may be over what the letter was told that it answers: an offer's base, and a tell's. A program
-# from before that does not say it.
-HEADS["known"] = re.compile(HEADS["known"].pattern + "(?: offer ([0-9,]+) tell ([0-9,]+))?")
 WORD = re.compile(r"0|(?:(?:0|[1-9][0-9]*),){0,7}[1-9][0-9]*")
 TOTAL = "total (?:0|-?[1-9][0-9]*)"
 COUNTS = rf"((?: {NUMBER}){{{REPLICAS}}})"
@@ -32,9 +29,8 @@ ANSWER = rf"{TOTAL}|largest {NUMBER}|(?:has|reached) (?:yes|no)|size {NUMBER}|it
 ANSWER += rf"|tags{TAGS}|updates{COUNTS}"
 # How a node stands: how far it is and its proposer, what it knows of its peers, and what its process counted.
 FAR = " has ([0-9,]+) view ([0-9,]+)"
-# Behind how far a peer is stands how many updates were sent to it that it did not say to have.
 PEER = re.compile(f" peer ([0-7]){FAR} unheard {NUMBER}")
-PEERS = "((?: peer [0-7] has [0-9,]+ view [0-9,]+ unheard (?:0|[1-9][0-9]*))*)"
+PEERS = "((?: peer [0-7] has [0-9,]+ view [0-9,]+ unheard [0-9]+)*)"
 TALLY = "".join(f" {way}" + "".join(f" {it} {NUMBER}" for it in FORMS) for way in ("in", "out"))
 TALLY += "".join(f" {it} {NUMBER}" for it in ("refused", "written", "syncs"))
 STANDS = rf"version [0-9.]+{FAR} submitted {NUMBER} waiting {NUMBER} ballot {NUMBER} (open|shut){PEERS}{TALLY}"
@@ -81,7 +77,11 @@ FAULTY = {
     "offer 3 1 0 0 5 has 9,9 view 9 base 0,;1.1 1 inc 5": "BadNumber",
     "no 3 2 0 0 5 has 9,9,9,9,9,9,9,9,9 view 9 base 0": "BadNumber",
     "known 3 1 0 has 9": "BadLine",
-    "known 3 1 0 has 9 view 9 base 9": "BadLine",
+    "known 3 1 0 has 9 view 9": "BadLine",
+    "known 3 1 0 has 9 view 9 offer 9": "BadLine",
+    "known 3 1 0 has 9 view 9 tell 9 offer 9": "BadLine",
+    "known 3 1 0 has 9 view 9 offer 9 tell 9 base 9": "BadLine",
+    "known 3 1 0 has 9 view 9 offer 9,9,9,9,9,9,9,9,9 tell 9": "BadNumber",
 }
 
 Counts = tuple[int, ...]
@@ -97,8 +97,8 @@ class Malformed(Exception):
 @dataclass(frozen=True)
 class Message:
     """A message, or what is told by `known`, which has no instance and no ballot. How far its sender is: `has`, what
-    that has accepted in instance 0, and its `view`. Of a Yes and of a `known` base and updates are empty. `over` is
-    what a `known` says of the letter that it answers, where it says it: the base of an offer, and of a tell."""
+    that has accepted in instance 0, and its `view`. Of a Yes and of a `known` base and updates are empty. Of a `known`
+    over what the offer was told that it answers, or the tell."""
 
     verb: str
     group: int
@@ -110,7 +110,8 @@ class Message:
     view: Counts
     base: Counts
     updates: tuple[Update, ...]
-    over: tuple[Counts, ...] = ()
+    offer: Counts = NOTHING
+    tell: Counts = NOTHING
 
     @property
     def counts(self) -> Counts:
@@ -124,8 +125,8 @@ class Message:
 @dataclass(frozen=True)
 class Standing:
     """How a node says that it stands: how far it is and its proposer, how far its peers are and how many updates were
-    sent to each that it did not say to have, and what its process counted: messages in and out by their kinds,
-    refusals, and bytes and syncs of the journal."""
+    sent to each that it did not say to have, and what its process counted: messages in and out by their kinds, refusals,
+    and bytes and syncs of the journal."""
 
     has: Counts
     view: Counts
@@ -179,11 +180,12 @@ def read_message(line: str) -> Message:
         raise Malformed(f"more than a {verb}")
     count = FORMS[verb][0]
     group, sender, to, instance, ballot = (*(int(it) for it in match.groups()[:count]), 0, 0)[:5]
-    has, view, *rest = (read_word(it) for it in match.groups()[count:] if it is not None)
+    has, view, *rest = (read_word(it) for it in match.groups()[count:])
+    head = verb, group, sender, to, instance, ballot, has, view
     if verb == "known":
-        return Message(verb, group, sender, to, instance, ballot, has, view, NOTHING, (), tuple(rest))
+        return Message(*head, NOTHING, (), *rest)
     base = rest[0] if rest else NOTHING
-    return Message(verb, group, sender, to, instance, ballot, has, view, base, read_updates(base, parts))
+    return Message(*head, base, read_updates(base, parts))
 
 
 def read_standing(values: tuple[str, ...]) -> Standing:
