@@ -34,7 +34,7 @@ use Rattle.la_world.specs.Together.{ViewsTogetherAreComparable, CommitsTogetherA
 use Rattle.la_world.proofs.lemmas.Letters.{mapped_has, some_letters}
 use Rattle.la_embed.specs.declared.outgoing.Outgoing.{Outgoing}
 use Rattle.la_embed.specs.declared.outgoing.Outgoing.TheVariants as out
-use Rattle.la_embed.specs.Hosts.{HostState, IsHostStep, IsSentAgain, IsMendedIf, IsPosted, IsToldBack}
+use Rattle.la_embed.specs.Hosts.{HostState, IsHostStep, IsPutAgain, IsMendedIf, IsPosted, IsToldBack}
 use Rattle.la_embed.specs.Hosts.{host_of, with_links, with_mail, with_noted, with_letter, with_letters}
 use Rattle.la_embed.specs.Receiving.{TakesHostLine, TakesRead, AnswersIf, IsTaken, BringsOwn, own_first, links_by}
 use Rattle.la_embed.specs.Together.{kept_of_hosts, AreHostsTogether, AreStillTogether, IsLineOfSent}
@@ -268,7 +268,7 @@ module _ (hosts : List HostState) (letters : List Letter) (learnt : List LearntS
       (posted heard after.kept given.mail before.mail after.mail after.links letters waiting step.mail)
 
   again_on : RepeatsKeepTogether → (links : Links) (why : Sending) (after : HostState) (noted : Links)
-      → after.kept ≡ before.kept → IsSentAgain before.kept links why before.mail after.mail noted
+      → after.kept ≡ before.kept → IsPutAgain before.kept links why before.mail after.mail noted
       → AreStillTogether hosts letters learnt r after
   again_on again links why after noted same (sent, whole, told, (is, now)) =
       let more = letters_sent links before.kept why sent in (
@@ -342,7 +342,8 @@ module _ (hosts : List HostState) (letters : List Letter) (learnt : List LearntS
       (subst (λ x. IsCallOfSent letters (Receive x)) (sym is)
       (may m refl (sym (ap (λ (x : WireMessage). x.to) is) ∙ to))) takes.taken
 
-  line_on : CallsKeepTogether → RepeatsKeepTogether → LettersAreReadBack → (after : HostState) (line : List ℕ) → IsLineOfSent letters r line
+  line_on : CallsKeepTogether → RepeatsKeepTogether → LettersAreReadBack → (after : HostState) (line : List ℕ)
+      → IsLineOfSent letters r line
       → TakesHostLine before line after → AreStillTogether hosts letters learnt r after
   line_on calls again back after line may takes =
       read_on calls again after (bounded_call_of line)
@@ -456,7 +457,8 @@ lines calls again back hosts letters learnt r before after line are at may takes
 
 pub own_mail : CallsKeepTogether → RepeatsKeepTogether → LettersAreReadBack → OwnMailKeepsHostsTogether
 own_mail calls again back hosts letters learnt r before after brought are at is =
-    own_on calls again back hosts letters learnt r before after brought (own_first before.kept before.mail) are at refl is
+    own_on calls again back hosts letters learnt r before after brought (own_first before.kept before.mail) are at refl
+    is
 
 pub repeats : RepeatsKeepTogether → RepeatsKeepHostsTogether
 repeats again hosts letters learnt r before mail noted are at is =

@@ -93,22 +93,22 @@ abbrev pub IsToldBack : Standing → (before mail : List Outgoing) → Type 0
 IsToldBack standing before mail = (mail ≡ before ++ out.Standing standing ∷ []) ⊎ (mail ≡ before)
 
 -- of what waits for an answer some is put there once more
-abbrev pub IsSentAgain : ReplicaState → Links → Sending → (before mail : List Outgoing) → (noted : Links) → Type 0
-IsSentAgain kept links why before mail noted =
+abbrev pub IsPutAgain : ReplicaState → Links → Sending → (before mail : List Outgoing) → (noted : Links) → Type 0
+IsPutAgain kept links why before mail noted =
     (sent : List code.Message) × (whole_mail sent ≡ again kept) × ((offered : Counts) → AreToldIn kept offered sent)
     × IsSent links kept.own (letters_sent links kept why sent) before mail noted
 
 -- but for what others are known to have; to whom nothing more is told it asks how far they are
 abbrev pub IsPostedAgain : (before : HostState) → (mail : List Outgoing) → (noted : Links) → Type 0
 IsPostedAgain before mail noted =
-    IsSentAgain before.kept (asked_with before.links (progress_of before.kept)) sending.Timer before.mail mail noted
+    IsPutAgain before.kept (asked_with before.links (progress_of before.kept)) sending.Timer before.mail mail noted
 
 -- What a replica lacks is told anew, where it said so; or there was no memory, and it is lost.
 abbrev pub IsMendedIf : (lacks : Bool) → ReplicaState → Links → (replica : ℕ) → (before mail : List Outgoing)
     → (noted : Links) → Type 0
 IsMendedIf false kept links r before mail noted = (mail ≡ before) × (noted ≡ links)
 IsMendedIf true kept links r before mail noted =
-    IsSentAgain kept links (sending.Lack r) before mail noted ⊎ ((mail ≡ before) × (noted ≡ links))
+    IsPutAgain kept links (sending.Lack r) before mail noted ⊎ ((mail ≡ before) × (noted ≡ links))
 
 abbrev pub IsMended : ReplicaState → Links → (replica : ℕ) → (before mail : List Outgoing) → (noted : Links) → Type 0
 IsMended kept links r before mail noted = IsMendedIf (is_lacked links r) kept links r before mail noted

@@ -14,12 +14,12 @@ use Rattle.la_node.specs.declared.link.Letter.{Letter}
 use Rattle.la_node.specs.declared.link.Link.{Link}
 use Rattle.la_node.specs.declared.link.Links.{Links}
 use Rattle.la_node.specs.declared.track.Track.{Track}
-use Rattle.la_node.specs.Links.{no_link, base_on, heard_on, lacking_on, noted_on, asked_on}
+use Rattle.la_node.specs.Links.{no_link, track_base, heard_on, lacking_on, noted_on, asked_on}
 use Rattle.la_node.specs.Links.{heard_link, answered_link, asked_link, noted_content, link_of, with_link, is_held}
 use Rattle.la_node.specs.Links.{links_over, asked_with, reach_of}
 use Rattle.la_node.specs.Links.{is_lacking}
 use Rattle.la_node.specs.LinkRuns.{LinkCall, Said, Answered, Wrote, Asked, after_link, AreCountsWithin, IsFarWithin}
-use Rattle.la_node.specs.LinkRuns.{IsToldWithin, IsCallWithin, BeliefsAreBounded, LackingIsBelieved}
+use Rattle.la_node.specs.LinkRuns.{ReachesWithin, IsCallWithin, BeliefsAreBounded, LackingIsBelieved}
 
 -- ## Counts
 
@@ -42,7 +42,7 @@ record IsTrackWithin (t : Track) (most : Counts) : Type 0 where
   known : AreCountsWithin t.known most
   sent : AreCountsWithin t.sent most
 
-base_within : (t : Track) (most : Counts) → IsTrackWithin t most → AreCountsWithin (base_on t) most
+base_within : (t : Track) (most : Counts) → IsTrackWithin t most → AreCountsWithin (track_base t) most
 base_within t most is = larger_within t.known t.sent most is.known is.sent
 
 heard_within : (t : Track) (most has : Counts) → IsTrackWithin t most → AreCountsWithin has most
@@ -88,7 +88,7 @@ asked_if_within : (held : Bool) (l : Link) (here most : Progress) → IsLinkWith
 asked_if_within true l here most is few = asked_link_within l here most is few
 asked_if_within false l here most is few = is
 
-content_within : (l : Link) (c : Content) (most : Progress) → IsLinkWithin l most → IsToldWithin c most
+content_within : (l : Link) (c : Content) (most : Progress) → IsLinkWithin l most → ReachesWithin c most
     → IsLinkWithin (noted_content l c) most
 content_within l (content.Offer d) most is few = record {
   accepted = noted_within l.accepted most.accepted d.base (reach_of d) is.accepted few;
@@ -152,7 +152,7 @@ module _ (replica : ℕ) (most : Progress) where
   asked_all_within links here few (suc (suc (suc (suc (suc (suc (suc (suc r)))))))) is = none_within most
 
   written_within : (b : Bool) (links : Links) (letter : Letter)
-      → (letter.parcel.to ≡ replica → IsToldWithin letter.parcel.content most) → IsWithin links
+      → (letter.parcel.to ≡ replica → ReachesWithin letter.parcel.content most) → IsWithin links
       → IsWithin
       (cond b (with_link links letter.parcel.to (noted_content (link_of links letter.parcel.to) letter.parcel.content))
       links)
@@ -213,7 +213,7 @@ twice_within : (c : Counts) → AreCountsWithin (larger c c) c
 twice_within c = larger_within c c c (λ q. omega arith) (λ q. omega arith)
 
 lacking_base : (t : Track) (has : Counts) (lacks : Bool) → lacks ≡ true
-    → AreCountsWithin (base_on (cond lacks (lacking_on t has) (heard_on t has))) has
+    → AreCountsWithin (track_base (cond lacks (lacking_on t has) (heard_on t has))) has
 lacking_base t has true e = twice_within has
 lacking_base t has false e = absurd (false≢true e)
 
@@ -222,9 +222,9 @@ lacking links s lt =
     let l = link_of links s.from in
     let is = there links.of s.from (answered_link l s.progress s.over) lt in (
       λ e.
-          subst (λ m. AreCountsWithin (base_on m.accepted) s.progress.accepted) (sym is)
+          subst (λ m. AreCountsWithin (track_base m.accepted) s.progress.accepted) (sym is)
           (lacking_base l.accepted s.progress.accepted (is_lacking l.accepted s.progress.accepted s.over.accepted) e),
       λ e.
-          subst (λ m. AreCountsWithin (base_on m.view) s.progress.view) (sym is)
+          subst (λ m. AreCountsWithin (track_base m.view) s.progress.view) (sym is)
           (lacking_base l.view s.progress.view (is_lacking l.view s.progress.view s.over.view) e),
     )

@@ -1,5 +1,6 @@
 -- Lists that are looked at one by one.
-use Rattle.std.proofs.Common.{◌≡◌, ◌&&◌, ◌+◌, ℕ, Bool, true, false, List, ◌∷◌, take, filter, fold, Some, refl, sym, ap, ◌∙◌, slice_get, get_or}
+use Rattle.std.proofs.Common.{◌≡◌, ◌&&◌, ◌+◌, ℕ, Bool, true, false, List, ◌∷◌, take, filter, fold, Some, refl, sym, ap}
+use Rattle.std.proofs.Common.{◌∙◌, slice_get, get_or}
 use Rattle.std.specs.List.{list_all}
 use Rattle.std.proofs.lemmas.List.Folds.{list_all_more}
 use Rattle.std.proofs.lemmas.List.Sums.{fold_more}

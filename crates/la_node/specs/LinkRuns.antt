@@ -44,17 +44,17 @@ pub record IsFarWithin (p most : Progress) : Type 0 where
   pub view : AreCountsWithin p.view most.view
 
 -- what a letter tells reaches no further
-abbrev pub IsToldWithin : Content → Progress → Type 0
-IsToldWithin (content.Offer d) most = AreCountsWithin (reach_of d) most.accepted
-IsToldWithin content.Yes most = Unit {0}
-IsToldWithin (content.No d) most = Unit {0}
-IsToldWithin (content.Tell d) most = AreCountsWithin (reach_of d) most.view
+abbrev pub ReachesWithin : Content → Progress → Type 0
+ReachesWithin (content.Offer d) most = AreCountsWithin (reach_of d) most.accepted
+ReachesWithin content.Yes most = Unit {0}
+ReachesWithin (content.No d) most = Unit {0}
+ReachesWithin (content.Tell d) most = AreCountsWithin (reach_of d) most.view
 
 -- what a call tells of this replica, or to it, reaches no further
 abbrev pub IsCallWithin : (replica : ℕ) → (most : Progress) → LinkCall → Type 0
 IsCallWithin r most (Said s progress) = s ≡ r → IsFarWithin progress most
 IsCallWithin r most (Answered s) = s.from ≡ r → IsFarWithin s.progress most
-IsCallWithin r most (Wrote letter) = letter.parcel.to ≡ r → IsToldWithin letter.parcel.content most
+IsCallWithin r most (Wrote letter) = letter.parcel.to ≡ r → ReachesWithin letter.parcel.content most
 IsCallWithin r most (Asked here) = IsFarWithin here most
 
 -- A letter's base is never more than was sent: whatever bounds where the node began, what letters told a replica, what

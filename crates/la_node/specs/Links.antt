@@ -43,8 +43,8 @@ no_track = record {
 }
 
 -- over what letters are told: as far as it said that it is, and as far as letters told that may still come
-abbrev pub base_on : Track → Counts
-base_on t = larger t.known t.sent
+abbrev pub track_base : Track → Counts
+track_base t = larger t.known t.sent
 
 -- it said that it has this
 abbrev pub heard_on : Track → Counts → Track
@@ -119,12 +119,12 @@ asked_link l here =
 abbrev pub number_with : Counts → UpdateId → (replica : ℕ) → ℕ
 number_with c id r = if r == id.replica then max (count_in c r) id.number else count_in c r
 
-unfoldable pub with_update : Counts → Update → Counts
-with_update c u = from_counts (number_with c u.id)
+unfoldable pub reaching : Counts → Update → Counts
+reaching c u = from_counts (number_with c u.id)
 
 -- how far its receiver is once it has a delta
 abbrev pub reach_of : DeltaState → Counts
-reach_of d = fold with_update d.base d.more
+reach_of d = fold reaching d.base d.more
 
 -- a letter of instance 0 went out to it
 abbrev pub noted_content : Link → Content → Link
@@ -156,7 +156,7 @@ known_of links r = record { accepted = (link_of links r).accepted.known; view = 
 -- over what letters to a replica are told
 abbrev pub believed_of : Links → (replica : ℕ) → Progress
 believed_of links r =
-    record { accepted = base_on (link_of links r).accepted; view = base_on (link_of links r).view }
+    record { accepted = track_base (link_of links r).accepted; view = track_base (link_of links r).view }
 
 -- once a replica said that it is so far
 abbrev pub known_with : Links → (replica : ℕ) → Progress → Links
@@ -235,8 +235,8 @@ mends l (body.Tell told) = l.view.lacks
 abbrev pub is_mending : Links → (replica : ℕ) → code.Message → Bool
 is_mending links r m = (m.instance == 0) && (m.to == r) && mends (link_of links r) m.body
 
--- what of some mail is sent: of a call's own what goes out, of what waits for an answer what is owed, once the timer has
--- run out, and what a replica lacks, once it said so
+-- what of some mail is sent: of a call's own what goes out; of what waits for an answer what is owed, once the timer
+-- has run out, and what a replica lacks, once it said so
 abbrev pub is_chosen : Links → Sending → code.Message → Bool
 is_chosen links sending.Call m = goes_out links m
 is_chosen links sending.Timer m = is_owed links m

@@ -3,7 +3,7 @@ ghost use Rattle.std.specs.Prelude.{◌≡◌, IfOk, filter};
 ghost use Rattle.la_replica.specs.Parcels.{IsTellWithinLimit};
 ghost use Rattle.la_replica.specs.Rebased.{IsOfferOver};
 ghost use Rattle.std.specs.List.{list_all};
-ghost use Rattle.la_node.specs.Links.{no_link, heard_link, answered_link, asked_link, noted_content, number_with, with_update, reach_of, mends};
+ghost use Rattle.la_node.specs.Links.{no_link, heard_link, answered_link, asked_link, noted_content, number_with, reaching, reach_of, mends};
 ghost use Rattle.la_node.specs.Links.{links_over, no_links, link_of, with_link, known_of, known_with, answered_with};
 ghost use Rattle.la_node.specs.Links.{noted_with, noted_all, believed_of, unheard_of, is_held, is_lacked, asked_of};
 ghost use Rattle.la_node.specs.Links.{asked_with, is_owed, tells_set, goes_out, is_mending, bases_of, is_counted};
@@ -116,8 +116,8 @@ fn number_with(counts: Counts, id: UpdateId, replica: u8) -> u32
 }
 
 // Counts that have this update too, and all before it.
-fn with_update(counts: Counts, update: &Update) -> Counts
-    ensures { result ≡ with_update counts update.now }
+fn reaching(counts: Counts, update: &Update) -> Counts
+    ensures { result ≡ reaching counts update.now }
 {
     let id = update.id;
     Counts::from([
@@ -141,7 +141,7 @@ fn reach_of(delta: &Delta) -> Counts
         let Some(update) = delta.at(place) else {
             unreachable!()
         };
-        reach = with_update(reach, update);
+        reach = reaching(reach, update);
     }
     reach
 }
@@ -381,9 +381,7 @@ impl Links {
     pub fn is_mending(&self, replica: u8, message: &Message) -> bool
         ensures { result ≡ is_mending self.now replica message.now }
     {
-        message.instance == 0
-            && message.to == replica
-            && self.link(replica).mends(&message.body)
+        message.instance == 0 && message.to == replica && self.link(replica).mends(&message.body)
     }
 
     // A replica that nothing more is told to is believed to be so far.

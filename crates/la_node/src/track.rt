@@ -1,7 +1,7 @@
 // What is known of one replica, of its accepted set or of its view: how far it said that it is, and how far letters
 // told it.
 ghost use Rattle.std.specs.Prelude.{◌≡◌, ◌≤◌, ◌^◌};
-ghost use Rattle.la_node.specs.Links.{covers, no_track, base_on, heard_on, answered_on, noted_on, asked_on, is_lacking};
+ghost use Rattle.la_node.specs.Links.{covers, no_track, track_base, heard_on, answered_on, noted_on, asked_on, is_lacking};
 ghost use Rattle.la_node.specs.Links.{mended_by, unheard_on};
 
 use la_set::Counts;
@@ -46,7 +46,7 @@ impl Track {
 
     // Over what the next letter is told.
     pub(crate) fn base(&self) -> Counts
-        ensures { result ≡ base_on self.now }
+        ensures { result ≡ track_base self.now }
     {
         self.known.max(self.sent)
     }

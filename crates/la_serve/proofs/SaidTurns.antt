@@ -13,7 +13,7 @@ use Rattle.la_node.specs.declared.link.Letter.{Letter}
 use Rattle.la_node.specs.declared.link.Links.{Links}
 use Rattle.la_node.specs.declared.link.Sending.{Sending}
 use Rattle.la_node.specs.declared.link.Sending.TheVariants as sending
-use Rattle.la_node.specs.Links.{asked_with, letters_sent, noted_all, is_lacked, tells_nothing, wants_standing, bases_of, standing_of}
+use Rattle.la_node.specs.Links.{asked_with, letters_sent, noted_all, is_lacked, tells_nothing, wants_standing}
 use Rattle.la_replica.specs.declared.parcel.Content.{Content}
 use Rattle.la_replica.specs.declared.parcel.Content.TheVariants as content
 use Rattle.la_replica.specs.declared.progress.Progress.{Progress}
@@ -31,7 +31,7 @@ use Rattle.la_wire.specs.Notes.{letters_text}
 use Rattle.la_wire.specs.Questions.{question_in, take_in}
 use Rattle.la_wire.specs.Calls.{WireCall, Submit, Decide, Ask, Tick, Receive, Known, called}
 use Rattle.la_wire.specs.Messages.{said_content, letter_message}
-use Rattle.la_durable.specs.Nodes.{content_of, parcel_of}
+use Rattle.la_durable.specs.Nodes.{content_of}
 use Rattle.la_durable.specs.Inputs.{InputState}
 use Rattle.la_serve.specs.declared.asking.Asking.{Asking}
 use Rattle.la_serve.specs.declared.said.Said.{Said}
@@ -396,25 +396,6 @@ same_content here (content.Offer d) = refl
 same_content here content.Yes = refl
 same_content here (content.No d) = refl
 same_content here (content.Tell d) = refl
-
-same_bases : (c : Content) → bases_of c ≡ bases_of (content_of (said_content c))
-same_bases (content.Offer d) = refl
-same_bases content.Yes = refl
-same_bases (content.No d) = refl
-same_bases (content.Tell d) = refl
-
--- what answers it answers what it says
-pub standing_as_said : (n : ReplicaState) (l : Letter)
-    → standing_of n l.parcel ≡ standing_of n (parcel_of (letter_message l))
-standing_as_said n l =
-    λ i.
-    record {
-      replicas = length n.votes;
-      from = n.own;
-      to = l.parcel.from;
-      progress = progress_of n;
-      over = same_bases l.parcel.content i;
-    }
 
 -- that is asked of what it says
 pub idle_as_said : (n : ReplicaState) (l : Letter) → wants_standing n l.parcel ≡ is_idle n (letter_message l)

@@ -22,7 +22,7 @@ use Rattle.la_serve.specs.Heard.{HeardLine, unheard, bare, heard_name}
 use Rattle.la_serve.specs.Names.{refusal_name}
 use Rattle.la_serve.specs.Turns.{Turn, only_writes, turn_refused, faulty, call_text, own_of, is_note, OneOf, noted_by}
 use Rattle.la_serve.specs.Turns.{ServerState, is_elsewhere, IsKeptTurn, IsTurnHere, IsTurnOf, IsRequestTurn}
-use Rattle.la_serve.specs.Turns.{IsShortTurn, IsNoted}
+use Rattle.la_serve.specs.Turns.{IsShortTurn, AreNoted}
 use Rattle.la_serve.specs.Turns.{IsTurn}
 use Rattle.la_serve.specs.Io.{Io}
 use Rattle.la_serve.specs.Serving.{OfCall, TakesBy, TellsNoLine}
@@ -77,7 +77,7 @@ module _ (Wrote : (before after : Option (List ℕ)) → List ℕ → Type 0) (k
       → after.journal
       ≡ before.journal ++ kept_unless (leaves_be before.state.kept after.state.kept (called input.call) given)
       heard.call
-      → IsNoted before.state.known (letters_sent before.state.known after.state.kept sending.Call given.mail)
+      → AreNoted before.state.known (letters_sent before.state.known after.state.kept sending.Call given.mail)
       after.state.known → (text : List ℕ)
       → text ≡ call_text (length (updates before.state.kept.view)) before.state.known after.state.kept
       (called input.call) heard.name given

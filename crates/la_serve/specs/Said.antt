@@ -193,8 +193,8 @@ IsSaidToQuestion objects n known h (Status replica) s = IsSaidStatus n known h.n
 
 -- ## Ticks and messages
 
--- of what waits for an answer some, once more, as letters over these links, which note them; or there was no memory, and
--- then nothing is noted
+-- of what waits for an answer some, once more, as letters over these links, which note them; or there was no memory,
+-- and then nothing is noted
 abbrev pub IsSaidAgain : (over before : Links) → ReplicaState → Sending → Said → (after : Links) → Type 0
 IsSaidAgain over before n reason (said.Lines text) after =
     (mail : List code.Message) × (whole_mail mail ≡ again n) × ((offered : Counts) → AreToldIn n offered mail)

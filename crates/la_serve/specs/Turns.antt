@@ -136,8 +136,8 @@ is_elsewhere n (Known s) = not (s.replicas == length n.votes) || not (s.to == n.
 -- ## What is heard of others
 
 -- how far another is: in answer to a letter of this node, or of another one
-abbrev pub known_by : ReplicaState → Links → Standing → Links
-known_by n known s = if s.to == n.own then answered_with known s else known_with known s.from s.progress
+abbrev pub hearing_known : ReplicaState → Links → Standing → Links
+hearing_known n known s = if s.to == n.own then answered_with known s else known_with known s.from s.progress
 
 -- how far the replica is that a call comes from, where it is one of this group
 abbrev pub known_after : ReplicaState → Links → WireCall → Links
@@ -147,7 +147,7 @@ known_after n known (Ask replica object query) = known
 known_after n known Tick = known
 known_after n known (Receive m) =
     if m.replicas == length n.votes then known_with known m.from m.progress else known
-known_after n known (Known s) = if s.replicas == length n.votes then known_by n known s else known
+known_after n known (Known s) = if s.replicas == length n.votes then hearing_known n known s else known
 
 -- a call by which this replica says how far it is
 abbrev pub IsKnownOf : (replica : ℕ) → WireCall → Type 0
@@ -224,14 +224,14 @@ IsOutcome n after call line journal_before journal_after (kept.Refused why) =
     (IsForMemory why ⊎ (acts n call ≡ None)) × (after ≡ n) × (journal_after ≡ journal_before)
 
 -- letters are noted; or there was no memory to write them
-abbrev pub IsNoted : (before : Links) → List Letter → (after : Links) → Type 0
-IsNoted before letters after = (after ≡ noted_all before letters) ⊎ (after ≡ before)
+abbrev pub AreNoted : (before : Links) → List Letter → (after : Links) → Type 0
+AreNoted before letters after = (after ≡ noted_all before letters) ⊎ (after ≡ before)
 
 -- a call was taken: its line is in the journal, if it changed anything
 pub record IsCallTaken (n : ServerState) (call : WireCall) (t : Turn) : Type 0 where
   pub given : Given
   pub acted : acts n.kept call ≡ Some (given, t.after.kept)
-  pub known : IsNoted n.known t.sent t.after.known
+  pub known : AreNoted n.known t.sent t.after.known
   pub written : t.text ≡ call_text (length (updates n.kept.view)) n.known t.after.kept call t.heard.name given
   pub sent : t.sent ≡ letters_sent n.known t.after.kept sending.Call given.mail
   pub learnt : t.learnt ≡ noted_by n.kept.own call given

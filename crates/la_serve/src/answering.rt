@@ -205,9 +205,7 @@ fn mend<W: Write, D: Disk, B: Replicated>(
     replica: u8,
     output: &mut W,
 ) -> Result<(), NodeFault>
-    requires takes { TakesLines server.old }
-    requires short { length asking.name.now ≤ MAX_NAME }
-    requires known { IsKnownOf replica (called input.now.call) }
+    requires { TakesLines server.old × (length asking.name.now ≤ MAX_NAME) × IsKnownOf replica (called input.now.call) }
     ensures ok { OnOk result (TakesLine (OfAsked asking.entry input.now IsTurnHere) TellsNoLine (io_of (W.contents output.old) server.old) (io_of (W.contents output.new) server.new)) }
     ensures err { IfErr result (Breaks (OfAsked asking.entry input.now IsTurnHere) TellsNoLine (io_of (W.contents output.old) server.old) (io_of (W.contents output.new) server.new)) }
     ensures stages { OnlyStages server.old server.new }
@@ -223,7 +221,14 @@ fn mend<W: Write, D: Disk, B: Replicated>(
     }
     let machine = &node.durable.machine;
     let over = *links;
-    let said = said_again(alloc, machine, links, over, Sending::Lack(replica), &mut tally.sent);
+    let said = said_again(
+        alloc,
+        machine,
+        links,
+        over,
+        Sending::Lack(replica),
+        &mut tally.sent,
+    );
     put(output, tally, machine.node.own(), asking, &said)?;
     Ok(())
 }
@@ -264,7 +269,14 @@ fn call_here<W: Write, D: Disk, B: Replicated>(
             } = server;
             let machine = &node.durable.machine;
             let asked = links.asked(machine.node.progress());
-            let said = said_again(alloc, machine, links, asked, Sending::Timer, &mut tally.sent);
+            let said = said_again(
+                alloc,
+                machine,
+                links,
+                asked,
+                Sending::Timer,
+                &mut tally.sent,
+            );
             put(output, tally, machine.node.own(), asking, &said)?;
             Ok(())
         }

@@ -178,7 +178,14 @@ pub fn text_of(
     let node = &machine.node;
     put_taken(&mut out, call, name, node)?;
     put_receipt(&mut out, node, before, call, given)?;
-    put_mail(&mut out, &over, &mut noted, node, &given.done.mail, Sending::Call)?;
+    put_mail(
+        &mut out,
+        &over,
+        &mut noted,
+        node,
+        &given.done.mail,
+        Sending::Call,
+    )?;
     *links = noted;
     Ok(out)
 }

@@ -14,7 +14,8 @@ use Rattle.la_wire.specs.Joined.{joined_by}
 use Rattle.la_wire.specs.Readings.{◌>>=◌, first_number}
 use Rattle.la_wire.specs.Updates.{update_text}
 use Rattle.la_wire.specs.Messages.{WireMessage, WireBody, Offer, Yes, No, Tell}
-use Rattle.la_wire.specs.MessageLines.{kind_text, has_word, view_word, base_word, counts_text, progress_words, over_words}
+use Rattle.la_wire.specs.MessageLines.{kind_text, has_word, view_word, base_word, counts_text, progress_words}
+use Rattle.la_wire.specs.MessageLines.{over_words}
 use Rattle.la_wire.specs.MessageLines.{kind_in, base_words, carried, head_words, message_text, kind_word}
 use Rattle.la_wire.specs.MessageLines.{message_header, progress_in, base_on, body_in, message_at, message_in, letter}
 use Rattle.la_wire.specs.MessageLines.{message_of_parts, line_message, standing_words, standing_in, over_in}

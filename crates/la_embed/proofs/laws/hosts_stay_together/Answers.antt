@@ -9,10 +9,14 @@ pub returns-clause-calls : goal.returns-clause-calls
 returns-clause-calls c = steps c.replicas_stay_together.ensures.calls
 
 pub returns-clause-lines : goal.returns-clause-lines
-returns-clause-lines c = lines c.replicas_stay_together.ensures.calls c.replicas_stay_together.ensures.again c.letters_are_read_back_or_not.ensures
+returns-clause-lines c =
+    lines c.replicas_stay_together.ensures.calls c.replicas_stay_together.ensures.again
+    c.letters_are_read_back_or_not.ensures
 
 pub returns-clause-own : goal.returns-clause-own
-returns-clause-own c = own_mail c.replicas_stay_together.ensures.calls c.replicas_stay_together.ensures.again c.letters_are_read_back_or_not.ensures
+returns-clause-own c =
+    own_mail c.replicas_stay_together.ensures.calls c.replicas_stay_together.ensures.again
+    c.letters_are_read_back_or_not.ensures
 
 pub returns-clause-again : goal.returns-clause-again
 returns-clause-again c = repeats c.replicas_stay_together.ensures.again

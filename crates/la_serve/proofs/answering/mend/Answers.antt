@@ -13,14 +13,14 @@ pub returns-then-not-is_lacked-clause-ok : goal.returns-then-not-is_lacked-claus
 returns-then-not-is_lacked-clause-ok g c =
     let none : is_lacked c.args.server.now.links c.args.replica ≡ false = search rules in
     known_taken (heard_as c.args.asking c.args.input.now.line) c.args.input.now c.args.asking.number _ c.args.replica
-    c.requires.known none
+    c.requires.2 none
 
 pub returns-clause-ok : goal.returns-clause-ok
 returns-clause-ok g c =
     let lacks : is_lacked c.args.server.now.links c.args.replica ≡ true = search rules in
     again_taken Appends c.args.asking.number (heard_as c.args.asking c.args.input.now.line) c.args.input.now _ _ refl
     refl _ c.own.ensures _ (Lack c.args.replica)
-    (λ t same is. lacked_here _ _ c.args.asking.number _ c.args.replica t c.requires.known lacks is)
+    (λ t same is. lacked_here _ _ c.args.asking.number _ c.args.replica t c.requires.2 lacks is)
     c.said_again-said.result c.in_ok-put.ensures.ok c.said_again-said.ensures
 
 pub returns-in_err-put-clause-err : goal.returns-in_err-put-clause-err
@@ -30,5 +30,5 @@ returns-in_err-put-clause-err g c =
     if_err_cut _ _ _ _ c.from_residual.result f
     (again_taken AppendsPrefix c.args.asking.number (heard_as c.args.asking c.args.input.now.line) c.args.input.now _ _
     refl refl _ c.own.ensures _ (Lack c.args.replica)
-    (λ t same is. lacked_here _ _ c.args.asking.number _ c.args.replica t c.requires.known lacks is)
+    (λ t same is. lacked_here _ _ c.args.asking.number _ c.args.replica t c.requires.2 lacks is)
     c.said_again-said.result c.in_err-put.ensures.err c.said_again-said.ensures)

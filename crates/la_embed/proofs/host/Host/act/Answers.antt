@@ -28,8 +28,8 @@ returns-clause-step g c =
             ∙ ap (λ (h : HostState). Some (given_of c.in_ok-done.field-0, h.kept)) (sym c.post.ensures.same);
         mail =
             let sent = c.in_ok-done.field-0.done.mail in
-            subst
-            (λ kept. IsPosted c.args.links kept sent c.self.inside.mail.items c.post.new.self.mail c.post.new.self.links)
+            let new = c.post.new.self in
+            subst (λ kept. IsPosted c.args.links kept sent c.self.inside.mail.items new.mail new.links)
             (sym (ap (λ (h : HostState). h.kept) c.post.ensures.same)) c.post.ensures.mail;
         shelf = ap (λ (h : HostState). h.shelf) c.post.ensures.same;
         handed = ap (λ (h : HostState). h.handed) c.post.ensures.same;

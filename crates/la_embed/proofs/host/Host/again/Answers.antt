@@ -24,7 +24,7 @@ returns-clause-ok g c =
       whole,
       (λ offered. search rules),
       subst
-      (λ (l : Links).
-      IsSent l kept.own (letters_sent l kept sending.Timer c.in_ok-mail.mail) c.args.self.now.mail new.mail new.links)
-      asked sent,
+          (λ (l : Links).
+          IsSent l kept.own (letters_sent l kept sending.Timer c.in_ok-mail.mail) c.args.self.now.mail new.mail new.links)
+          asked sent,
     )) c.send.ensures.ok

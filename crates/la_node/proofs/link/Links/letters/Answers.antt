@@ -37,7 +37,8 @@ loop-message-preserved-then-is_chosen g c =
       omega (arith, i.1, put.len, put.capacity, ap length first),
       λ over. i.2 (subst (λ ms. AreOffersOver links (filter chosen ms)) (sym first)
           (subst (AreOffersOver links) (sym keeps)
-          (All-cons (λ (n : code.Message). IsOfferOver (told_on links n).body) m (filter chosen rest) parcel.over over))),
+          (All-cons (λ (n : code.Message). IsOfferOver (told_on links n).body) m (filter chosen rest) parcel.over
+          over))),
     )
 
 pub loop-message-preserved : goal.loop-message-preserved
@@ -54,5 +55,6 @@ loop-message-preserved g c =
       omega (arith, i.1, ap length first),
       λ over.
           i.2
-          (subst (λ ms. AreOffersOver links (filter chosen ms)) (sym first) (subst (AreOffersOver links) (sym drops) over)),
+          (subst (λ ms. AreOffersOver links (filter chosen ms)) (sym first)
+          (subst (AreOffersOver links) (sym drops) over)),
     )
