@@ -340,7 +340,10 @@ class Run:
                 self.deliver_next()
                 self.in_time()
             self.tick()
-            if not any(it.line.startswith("offer") for it in self.network.pool) and self.is_settled():
+            if any(self.network.is_still(it.own) for it in self.nodes):
+                # It has had no tick yet, so that what it has to say again is not said.
+                self.network.round += 1
+            elif not any(it.line.startswith("offer") for it in self.network.pool) and self.is_settled():
                 return
         raise Stuck(f"views do not become equal: {[it.view for it in self.checker.nodes]}")
 
