@@ -44,7 +44,7 @@ STEPS = (
     Step("sync", NODE, DISK, ("fdatasync",), ("The same.",)),
     Step("", DISK, NODE, ("All are on the disk.",), ("All calls are kept.",)),
     Step(
-        "said", NODE, BROKER, ("answers and messages,", "one write a line"),
+        "said", NODE, BROKER, ("answers and messages,", "lines whole"),
         ("All calls are kept. Send", "again what has no answer."),
     ),
 )
