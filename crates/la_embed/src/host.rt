@@ -1,4 +1,4 @@
-ghost use Rattle.std.specs.Prelude.{◌≡◌, ◌≢◌, ◌<◌, ◌+◌, ◌++◌, ◌∷◌, [], Ok, Some, None, IfOk, IfErr, OnOk, OnErr};
+ghost use Rattle.std.specs.Prelude.{◌≡◌, ◌≢◌, ◌<◌, ◌≤◌, ◌+◌, ◌++◌, ◌∷◌, [], Ok, Some, None, IfOk, IfErr, OnOk, OnErr};
 ghost use Rattle.std.specs.Prelude.{◌↔◌, IsTrue, true, false, option_map, drop, length, slice_get};
 ghost use Rattle.std.specs.Option.{option_copied};
 ghost use Rattle.la_object.specs.Objects.{kind_of};
@@ -236,19 +236,19 @@ impl<B: Replicated> Host<B> {
         self.shelf.add(number, object)
     }
 
-    // Puts of mail of the node what is sent to what waits, as letters over these links, and takes note of them.
-    fn send(&mut self, links: Links, mail: Mail, why: Sending) -> Result<(), AllocError>
-        ensures ok { OnOk result (IsSent links self.old.kept.own (letters_sent links self.old.kept why mail)
-            self.old.mail self.new.mail self.new.links) }
+    // Puts of mail of the node what is sent to what waits, as letters, and takes note of them.
+    fn send(&mut self, mail: Mail, why: Sending) -> Result<(), AllocError>
+        ensures ok { OnOk result (IsSent self.old.links self.old.kept.own
+            (letters_sent self.old.links self.old.kept why mail) self.old.mail self.new.mail self.new.links) }
         ensures same { self.new ≡ with_noted self.old self.new.mail self.new.links }
         ensures err { OnErr result (self.new ≡ self.old) }
     {
         let own = self.own();
-        let letters = links.letters(self.alloc, self.keeper.node(), mail, why)?;
-        let mut noted = links;
-        noted.note_all(&letters);
-        put_letters(&mut self.mail, own, letters)?;
-        self.links = noted;
+        let node = self.keeper.node();
+        let letters = self.links.letters(self.alloc, node, mail, why)?;
+        self.mail.reserve(letters.len())?;
+        self.links.note_all(&letters);
+        put_letters(&mut self.mail, own, letters);
         Ok(())
     }
 
@@ -257,7 +257,7 @@ impl<B: Replicated> Host<B> {
         ensures mail { IsPosted self.old.links self.old.kept mail self.old.mail self.new.mail self.new.links }
         ensures same { self.new ≡ with_noted self.old self.new.mail self.new.links }
     {
-        let _lost = self.send(self.links, mail, Sending::Call);
+        let _lost = self.send(mail, Sending::Call);
     }
 
     // Tells a replica anew what it lacks, where it said so. Where there is no memory that is lost.
@@ -271,21 +271,19 @@ impl<B: Replicated> Host<B> {
         let Ok(mail) = self.keeper.node().again() else {
             return;
         };
-        let _lost = self.send(self.links, mail, Sending::Lack(replica));
+        let _lost = self.send(mail, Sending::Lack(replica));
     }
 
-    // Takes a call, by its line where there is a journal: one step of the node, with what is known of others from then
-    // on.
-    fn act(&mut self, call: Call, line: &[u8], links: Links) -> Result<(), NodeError>
+    // Takes a call, by its line where there is a journal: one step of the node.
+    fn act(&mut self, call: Call, line: &[u8]) -> Result<(), NodeError>
         requires { self.old.journal ≢ None → named_call line.now ≡ Some (called call) }
-        ensures step { IfOk result (λ _. TakesCall self.old links (called call) self.new) }
+        ensures step { IfOk result (λ _. TakesCall self.old self.old.links (called call) self.new) }
         ensures refusal { IfErr result (IsRefusedOver self.old.journal (may_stand line.now ≡ false)
             (IsActRefusal self.old.kept call)) }
         ensures err { OnErr result (self.new ≡ self.old) }
     {
         let Received { done, .. } = self.keeper.act(self.alloc, call, line)?;
         let Done { mail, .. } = done;
-        self.links = links;
         self.post(mail);
         Ok(())
     }
@@ -298,14 +296,13 @@ impl<B: Replicated> Host<B> {
             (IsActRefusal self.old.kept call)) }
         ensures err { OnErr result (self.new ≡ self.old) }
     {
-        let links = self.links;
         if !self.keeper.has_journal() {
-            return self.act(call, &[], links);
+            return self.act(call, &[]);
         }
         // a hint to the prover: of lines that are written
         la_wire::laws::calls_may_stand_in_files();
         match line_of(self.alloc, &call)? {
-            Some(line) => self.act(call, &line, links),
+            Some(line) => self.act(call, &line),
             None => Err(NodeError::Unkept),
         }
     }
@@ -406,16 +403,18 @@ impl<B: Replicated> Host<B> {
         if !is_for_host(&self.keeper, letter.replicas, letter.parcel.to) {
             return Err(HostError::Node(NodeError::Elsewhere));
         }
+        let before = self.links;
+        self.links.hear(letter.parcel.from, letter.progress);
         let node = self.keeper.node();
-        let mut links = self.links;
-        links.hear(letter.parcel.from, letter.progress);
         if node.wants_standing(&letter.parcel) {
             let standing = node.standing(&letter.parcel);
-            self.links = links;
             self.answer(standing);
             return Ok(());
         }
-        self.act(Call::Receive(letter), line, links)?;
+        if let Err(refused) = self.act(Call::Receive(letter), line) {
+            self.links = before;
+            return Err(HostError::from(refused));
+        }
         Ok(())
     }
 
@@ -459,8 +458,13 @@ impl<B: Replicated> Host<B> {
     {
         let node = self.keeper.node();
         let mail = node.again()?;
-        let asked = self.links.asked(node.progress());
-        self.send(asked, mail, Sending::Timer)
+        let before = self.links;
+        self.links = before.asked(node.progress());
+        if let Err(refused) = self.send(mail, Sending::Timer) {
+            self.links = before;
+            return Err(refused);
+        }
+        Ok(())
     }
 
     /// What is to be sent next: what is for this node itself, and then the oldest.
@@ -586,21 +590,14 @@ fn does(update: &Update, object: u16, op: &Op) -> bool
     update.object == object && update.op.same(op)
 }
 
-// Puts letters before what waits that are for this replica itself, and others behind it. After a refusal nothing has
-// changed.
-fn put_letters(
-    mail: &mut VecDeque<Outgoing>,
-    own: u8,
-    letters: Vec<Letter>,
-) -> Result<(), AllocError>
-    ensures ok { OnOk result (mail.new.items ≡ with_letters own mail.old.items letters.items) }
-    ensures err { OnErr result (mail.new.items ≡ mail.old.items) }
+// Puts letters before what waits that are for this replica itself, and others behind it, where there is room.
+fn put_letters(mail: &mut VecDeque<Outgoing>, own: u8, letters: Vec<Letter>)
+    requires { deque_len mail.old + length letters.items ≤ deque_capacity mail.old }
+    ensures { mail.new.items ≡ with_letters own mail.old.items letters.items }
 {
-    mail.reserve(letters.len())?;
     for letter in letters {
         put_reserved(mail, own, letter);
     }
-    Ok(())
 }
 
 // Puts a letter there, where there is room for one more.

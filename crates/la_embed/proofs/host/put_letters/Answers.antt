@@ -6,10 +6,9 @@ use Rattle.la_embed.proofs.host.put_letters.Goals as goal
 
 pub loop-letter-init : goal.loop-letter-init
 loop-letter-init c =
-    let gives = c.into_iter-letter-iterator.ensures.into_iter_gives in
-    let room = c.in_ok-reserve.ensures in (
+    let gives = c.into_iter-letter-iterator.ensures.into_iter_gives in (
       refl,
-      omega (arith, room.capacity, room.len, c.len.ensures, ap length gives.0),
+      omega (arith, c.requires, ap length gives.0),
       omega (
         arith,
         gives.1,
@@ -33,12 +32,10 @@ loop-letter-preserved c =
       omega (arith, i.2, steps.1, ap length steps.0),
     )
 
-pub returns-clause-ok : goal.returns-clause-ok
-returns-clause-ok c =
+pub returns : goal.returns
+returns c =
     let i = c.loop-letter.invariant in
     let gives = c.into_iter-letter-iterator.ensures.into_iter_gives in
     all_put c.args.own c.loop-letter.mail.items (into_iter_items c.loop-letter.letter-iterator) _
     (sym i.2 ∙ c.in-None.ensures.steps.0) i.0
-    ∙ ap (λ ms. with_letters c.args.own ms (into_iter_items c.into_iter-letter-iterator.result))
-    c.in_ok-reserve.ensures.items
     ∙ ap (λ ls. with_letters c.args.own c.args.mail.now.items ls) gives.0

@@ -19,7 +19,7 @@ invariant_of-self-2 g c = record {
 
 pub returns-clause-step : goal.returns-clause-step
 returns-clause-step g c =
-    subst (λ (h : HostState). (x : Given) × IsHostStep h c.args.links (called c.args.call) x c.post.new.self)
+    subst (λ (h : HostState). (x : Given) × IsHostStep h h.links (called c.args.call) x c.post.new.self)
     c.self.view_is (
       given_of c.in_ok-done.field-0,
       record {
@@ -29,7 +29,7 @@ returns-clause-step g c =
         mail =
             let sent = c.in_ok-done.field-0.done.mail in
             let new = c.post.new.self in
-            subst (λ kept. IsPosted c.args.links kept sent c.self.inside.mail.items new.mail new.links)
+            subst (λ kept. IsPosted c.self.inside.links kept sent c.self.inside.mail.items new.mail new.links)
             (sym (ap (λ (h : HostState). h.kept) c.post.ensures.same)) c.post.ensures.mail;
         shelf = ap (λ (h : HostState). h.shelf) c.post.ensures.same;
         handed = ap (λ (h : HostState). h.handed) c.post.ensures.same;
