@@ -1,5 +1,5 @@
 -- A turn by what is said of its line.
-use Rattle.std.proofs.Common.{◌≡◌, ℕ, true, false, ◌&&◌, [], List, append-nil, take}
+use Rattle.std.proofs.Common.{◌≡◌, ℕ, Bool, true, false, ◌&&◌, [], List, append-nil, take}
 use Rattle.std.proofs.Common.{Some, None, Option, refl, sym, ap, subst, ◌∙◌, inl, inr, length}
 use Rattle.std.proofs.Common.{leb}
 use Rattle.std.proofs.Common.{◌==◌, ◌⊎◌, Result, OnOk, IfErr}
@@ -157,37 +157,29 @@ tick_here objects n k call over e asked t is =
     (subst (λ l. IsSentAgain n l sending.Timer t ⊎ IsStarved n k t) asked is)
 
 -- once another said how far it is
-module _ (objects : List (ℕ × Kind)) (n : ServerState) (k : ℕ) (call : WireCall) (r : ℕ) where
-  pub lacked_here : (t : Turn) → IsKnownOf r call → is_lacked n.known r ≡ true
-      → (IsMendingTurn n r t ⊎ IsStarved n k t) → IsTurnHere objects n k call t
-  lacked_here t of lacks is = go call of
-    where
-      go : (c : WireCall) → IsKnownOf r c → IsTurnHere objects n k c t
-      go (Submit replica object op) of = absurd of
-      go (Decide replica commit value) of = absurd of
-      go (Ask replica object query) of = absurd of
-      go Tick of = absurd of
-      go (Receive m) of = absurd of
-      go (Known s) of =
-          subst
-          (λ b. OneOf b (IsMendingTurn n s.from t ⊎ IsStarved n k t) (t ≡ only_writes n t.heard []))
-          (sym (ap (is_lacked n.known) of ∙ lacks))
-          (subst (λ q. IsMendingTurn n q t ⊎ IsStarved n k t) (sym of) is)
+module _ (objects : List (ℕ × Kind)) (n : ServerState) (k : ℕ) (call : WireCall) (r : ℕ) (t : Turn) where
+  -- by what it says, be something lacking or not
+  said_here : (c : WireCall) → IsKnownOf r c → (lacks : Bool) → is_lacked n.known r ≡ lacks
+      → OneOf lacks (IsMendingTurn n r t ⊎ IsStarved n k t) (t ≡ only_writes n t.heard [])
+      → IsTurnHere objects n k c t
+  said_here (Submit replica object op) of lacks e is = absurd of
+  said_here (Decide replica commit value) of lacks e is = absurd of
+  said_here (Ask replica object query) of lacks e is = absurd of
+  said_here Tick of lacks e is = absurd of
+  said_here (Receive m) of lacks e is = absurd of
+  said_here (Known s) of lacks e is =
+      subst
+      (λ q. OneOf (is_lacked n.known q) (IsMendingTurn n q t ⊎ IsStarved n k t) (t ≡ only_writes n t.heard []))
+      (sym of)
+      (subst (λ b. OneOf b (IsMendingTurn n r t ⊎ IsStarved n k t) (t ≡ only_writes n t.heard [])) (sym e) is)
 
-  pub known_here : (t : Turn) → IsKnownOf r call → is_lacked n.known r ≡ false → t ≡ only_writes n t.heard []
+  pub lacked_here : IsKnownOf r call → is_lacked n.known r ≡ true → (IsMendingTurn n r t ⊎ IsStarved n k t)
       → IsTurnHere objects n k call t
-  known_here t of lacks is = go call of
-    where
-      go : (c : WireCall) → IsKnownOf r c → IsTurnHere objects n k c t
-      go (Submit replica object op) of = absurd of
-      go (Decide replica commit value) of = absurd of
-      go (Ask replica object query) of = absurd of
-      go Tick of = absurd of
-      go (Receive m) of = absurd of
-      go (Known s) of =
-          subst
-          (λ b. OneOf b (IsMendingTurn n s.from t ⊎ IsStarved n k t) (t ≡ only_writes n t.heard []))
-          (sym (ap (is_lacked n.known) of ∙ lacks)) is
+  lacked_here of lacks is = said_here call of true lacks is
+
+  pub known_here : IsKnownOf r call → is_lacked n.known r ≡ false → t ≡ only_writes n t.heard []
+      → IsTurnHere objects n k call t
+  known_here of lacks is = said_here call of false lacks is
 
 -- where nothing is lacking, what another is known to have changes nothing else
 pub known_taken : (heard : HeardLine) (input : InputState) (k : ℕ) (io : Io) (r : ℕ) → IsKnownOf r (called input.call)
