@@ -4,12 +4,14 @@
 #![tactic(auto)]
 
 mod listener;
+mod paced;
 mod source;
 mod streams;
 mod taking;
 mod writing;
 
 pub use listener::{Listener, tell_all};
+pub use paced::Paced;
 pub use source::{MAX_LINE, MAX_SET_LINE, Next, Source, SourceFault, limit_of};
 pub use streams::{
     InputFault, LIMIT, WriteFailed, flush, put_bytes, read_all, write_all, write_some,

@@ -8,6 +8,7 @@ pub mod Said
 pub mod Takes
 pub mod Turns
 pub mod Io
+pub mod Arrivals
 pub mod Asking
 pub mod Giving
 pub mod Reading

@@ -24,7 +24,7 @@ use crate::said::{Said, why_word};
 use crate::saying::{said_again, said_here, said_to_call};
 use crate::taking::taken_tags;
 use crate::texts::text_of;
-use crate::{NodeFault, Server};
+use crate::{Arrivals, NodeFault, Server};
 use la_durable::{Input, NodeMachine};
 use la_io::{Listener, WriteFailed, write_lines};
 use la_journal::Disk;
@@ -87,6 +87,20 @@ fn hear(links: &mut Links, machine: &NodeMachine, call: &Call)
     }
 }
 
+// Takes note of whom the call comes from, if that is another replica of this group, or of a tick.
+fn notice(arrivals: &mut Arrivals, machine: &NodeMachine, call: &Call) {
+    let replicas = machine.node.replicas();
+    let from = match call {
+        Call::Tick => return arrivals.tick(),
+        Call::Receive(letter) if letter.replicas == replicas => letter.parcel.from,
+        Call::Known(standing) if standing.replicas == replicas => standing.from,
+        _ => return,
+    };
+    if from != machine.node.own() {
+        arrivals.hear(from);
+    }
+}
+
 // A call that is kept: its line is staged.
 fn take<W: Write, D: Disk, B: Replicated>(
     alloc: Global,
@@ -105,12 +119,14 @@ fn take<W: Write, D: Disk, B: Replicated>(
         node,
         links,
         tally,
+        arrivals,
         ..
     } = server;
     let own = node.durable.machine.node.own();
     let before = node.durable.machine.node.view().len();
     match keep(alloc, node, input) {
         Kept::Taken(given) => {
+            arrivals.keep();
             count_mail(&mut tally.sent, links, &given.done.mail, Sending::Call);
             match text_of(
                 alloc,
@@ -325,9 +341,11 @@ fn call<W: Write, D: Disk, B: Replicated>(
         node,
         links,
         tally,
+        arrivals,
         ..
     } = &mut *server;
     hear(links, &node.durable.machine, input.call());
+    notice(arrivals, &node.durable.machine, input.call());
     count_received(&mut tally.received, input.call());
     call_heard(alloc, server, asking, input, output)
 }
@@ -397,6 +415,7 @@ fn question<W: Write, D: Disk, B: Replicated>(
         shelf,
         links,
         tally,
+        ..
     } = server;
     let machine = &node.durable.machine;
     let own = machine.node.own();

@@ -6,6 +6,7 @@
 #![tactic(auto)]
 
 mod answering;
+mod arrivals;
 mod asking;
 mod compacting;
 mod counting;
@@ -29,6 +30,7 @@ mod starting;
 mod taking;
 mod texts;
 
+pub use arrivals::Arrivals;
 pub use ended::Ended;
 pub use error::{NodeFault, NodeOption};
 pub use label::Labelled;

@@ -1,5 +1,6 @@
 ghost use Rattle.std.specs.Prelude.{◌≡◌};
 
+use crate::Arrivals;
 use la_durable::NodeMachine;
 use la_journal::{Disk, Durable, Staged};
 use la_node::Links;
@@ -7,7 +8,7 @@ use la_object::{Replicated, Shelf};
 use la_wire::Tally;
 
 /// A node with its journal, a shelf of objects that answer by its view, and how far other replicas are, as far
-/// as is known. What the shelf has absorbed, and what is known of others, is not kept.
+/// as is known. What the shelf has absorbed, and what is known of others, and what came since a tick, is not kept.
 #[derive(Drop)]
 pub struct Server<D: Disk, B: Replicated> {
     pub node: Staged<NodeMachine, D>,
@@ -15,6 +16,8 @@ pub struct Server<D: Disk, B: Replicated> {
     pub links: Links,
     /// What this process counted.
     pub tally: Tally,
+    /// What came since the last tick.
+    pub arrivals: Arrivals,
 }
 
 impl<D: Disk, B: Replicated> Server<D, B> {

@@ -12,19 +12,19 @@ use crate::answering::answer;
 use crate::counting::count_sync;
 use crate::{NodeFault, Output, Server};
 use la_durable::NodeMachine;
-use la_io::{Listener, Next, Source};
+use la_io::{Listener, Next, Paced, Source};
 use la_journal::{Disk, Uncommitted, laws};
 use la_object::Replicated;
 use la_wire::{LineFault, tell_fault};
 use std::alloc::Global;
-use std::io::{Read, Write};
+use std::io::Write;
 
 // From so many bytes on, what is held back goes out before the next line is taken, though more of them were read.
 const MOST_HELD: usize = 4_194_304;
 
 // Takes the next line, or answers that there is none. What it comes to is held back. It waits for a line only where
 // nothing is.
-fn step<R: Read, E: Listener, D: Disk, B: Replicated>(
+fn step<R: Paced, E: Listener, D: Disk, B: Replicated>(
     alloc: Global,
     source: &mut Source,
     server: &mut Server<D, B>,
@@ -45,6 +45,9 @@ fn step<R: Read, E: Listener, D: Disk, B: Replicated>(
     match source.next(input)? {
         Next::Line => {
             answer(alloc, server, number, source.line.as_slice(), held, errors)?;
+            if server.arrivals.take() {
+                input.begin_anew();
+            }
             Ok(true)
         }
         Next::Long => {
@@ -126,7 +129,8 @@ fn of_step(fault: NodeFault) -> NodeFault
 
 /// Takes the lines of an input as they come, until its end. What follows the last line's end is no line: it
 /// is told as `BadLine`. What is written is exactly what they come to, and of a call that is kept
-/// only once its line is on the disk: all calls that one read brought are put there together. A crash at any moment
+/// only once its line is on the disk: all calls that one read brought are put there together. Where a line is kept, or
+/// comes from a replica that was silent, the input's ticks [begin anew](Paced::begin_anew). A crash at any moment
 /// from when a text was given out leaves a journal that has all calls that were kept up to it. What faults are told may
 /// find no taker, and then it goes on.
 ///
@@ -134,7 +138,7 @@ fn of_step(fault: NodeFault) -> NodeFault
 /// fails, where a front of the text is out, and all lines are in the journal; `Memory`, with the same behind it, where
 /// a line or what is written of it finds no room; `DiskFault` where the disk fails: nothing has gone out of the last
 /// calls, and the journal is to be recovered.
-pub fn serve<R: Read, W: Write + Drop, E: Listener, D: Disk, B: Replicated>(
+pub fn serve<R: Paced, W: Write + Drop, E: Listener, D: Disk, B: Replicated>(
     alloc: Global,
     server: &mut Server<D, B>,
     input: &mut R,

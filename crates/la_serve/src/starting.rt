@@ -15,18 +15,18 @@ use crate::compacting::{compact_grown, is_grown};
 use crate::names::{cause_name, end_name, option_name};
 use crate::serving::serve;
 use crate::shelf::shelf_of;
-use crate::{Ended, NodeFault, NodeOption, Options, Output, Server};
+use crate::{Arrivals, Ended, NodeFault, NodeOption, Options, Output, Server};
 use arrayvec::ArrayString;
 use itoa::Buffer;
 use la_durable::{NodeError, NodeMachine};
-use la_io::{Listener, tell_all};
+use la_io::{Listener, Paced, tell_all};
 use la_journal::{Disk, Durable, Machine, Staged, Unplayed, recover};
 use la_node::{Links, WorldError};
 use la_object::{Counter, Kind, MaxRegister, Replicated, Shelf};
 use la_orset::OrSet;
 use la_wire::Tally;
 use std::alloc::{AllocError, Global};
-use std::io::{ErrorKind, Read, Write};
+use std::io::{ErrorKind, Write};
 
 // The longest line is that of a start's fault.
 type Line = ArrayString<47>;
@@ -261,7 +261,7 @@ fn disk_of<D: Disk>(durable: Durable<NodeMachine, D>) -> D
 }
 
 // The node, until its input ends, and the disk then.
-fn start<R: Read, W: Write + Drop, E: Listener, D: Disk, B: Replicated>(
+fn start<R: Paced, W: Write + Drop, E: Listener, D: Disk, B: Replicated>(
     alloc: Global,
     options: &Options,
     shelf: Shelf<B>,
@@ -300,6 +300,7 @@ fn start<R: Read, W: Write + Drop, E: Listener, D: Disk, B: Replicated>(
                 shelf,
                 links,
                 tally: Tally::none(),
+                arrivals: Arrivals::none(),
             };
             let served = serve(alloc, &mut server, input, out, errors);
             (served, server.into_disk())
@@ -328,7 +329,7 @@ fn new_of<B: Replicated>(kind: Kind, object: B) -> B
 
 // The node with objects that are made for it, until its input ends.
 fn run_with<
-    R: Read,
+    R: Paced,
     W: Write + Drop,
     E: Listener,
     D: Disk,
@@ -386,7 +387,7 @@ fn ended<E: Listener, D: Drop>(
 /// A crash at any moment from when a text was given out leaves a journal that has all calls that were kept up to it
 /// (`keeps` of `Leaves`, in `specs/Crashes`): whoever starts there goes on from what was written
 /// ([`laws`](crate::laws)).
-pub fn run<R: Read, W: Write + Drop, E: Listener, D: Disk>(
+pub fn run<R: Paced, W: Write + Drop, E: Listener, D: Disk>(
     alloc: Global,
     options: &Options,
     found: Vec<u8>,

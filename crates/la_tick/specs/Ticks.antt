@@ -10,9 +10,15 @@ use Rattle.la_tick.specs.declared.feed.Feed.{Feed}
 
 -- ## What was heard
 
--- What was heard, the newest first: bytes that came, or `None` where an interval passed.
+-- bytes came, an interval passed, or the reader was told that intervals begin anew
+pub data Heard : Type 0 where
+  Came : List ℕ → Heard
+  Passed : Heard
+  Anew : Heard
+
+-- what was heard, the newest first
 abbrev pub Hearing : Type 0
-Hearing = List (Option (List ℕ))
+Hearing = List Heard
 
 -- `tick` and a line's end
 abbrev pub tick_line : List ℕ
@@ -21,20 +27,23 @@ tick_line = 116 ∷ 105 ∷ 99 ∷ 107 ∷ 10 ∷ []
 -- the bytes that came
 abbrev pub input : Hearing → List ℕ
 input [] = []
-input (Some bytes ∷ before) = input before ++ bytes
-input (None ∷ before) = input before
+input (Came bytes ∷ before) = input before ++ bytes
+input (Passed ∷ before) = input before
+input (Anew ∷ before) = input before
 
 -- what is made of it: the bytes that came, and a tick for each interval
 abbrev pub woven : Hearing → List ℕ
 woven [] = []
-woven (Some bytes ∷ before) = woven before ++ bytes
-woven (None ∷ before) = woven before ++ tick_line
+woven (Came bytes ∷ before) = woven before ++ bytes
+woven (Passed ∷ before) = woven before ++ tick_line
+woven (Anew ∷ before) = woven before
 
--- how many intervals passed: since anything came, where they begin anew with it, and else in all
-abbrev pub passed : (anew : Bool) → Hearing → ℕ
-passed anew [] = 0
-passed anew (Some bytes ∷ before) = if anew then 0 else passed anew before
-passed anew (None ∷ before) = passed anew before + 1
+-- how many intervals passed since they began anew
+abbrev pub passed : Hearing → ℕ
+passed [] = 0
+passed (Came bytes ∷ before) = passed before
+passed (Passed ∷ before) = passed before + 1
+passed (Anew ∷ before) = 0
 
 -- ## Between lines
 
@@ -50,8 +59,9 @@ is_whole bytes = ends_behind true bytes
 -- each tick came behind whole lines
 abbrev pub IsBetweenLines : Hearing → Type 0
 IsBetweenLines [] = Unit {0}
-IsBetweenLines (Some bytes ∷ before) = IsBetweenLines before
-IsBetweenLines (None ∷ before) = (is_whole (input before) ≡ true) × IsBetweenLines before
+IsBetweenLines (Came bytes ∷ before) = IsBetweenLines before
+IsBetweenLines (Passed ∷ before) = (is_whole (input before) ≡ true) × IsBetweenLines before
+IsBetweenLines (Anew ∷ before) = IsBetweenLines before
 
 -- ## A reader
 
@@ -69,7 +79,7 @@ pub record Stands (f : Feed) (heard : Hearing) (handed : List ℕ) : Type 0 wher
   pub woven : woven heard ≡ handed ++ in_hand f
   pub whole : f.whole ≡ is_whole (input heard)
   pub between : IsBetweenLines heard
-  pub interval : f.pace.now ≡ interval f.pace.first (passed f.pace.anew heard)
+  pub interval : f.pace.now ≡ interval f.pace.first (passed heard)
 
 -- these bytes were handed on more, and one thing was heard more, or nothing
 pub record HandsOn (f : Feed) (heard : Hearing) (handed bytes : List ℕ) : Type 0 where

@@ -1,8 +1,7 @@
 // What is handed on of an input, and when a tick is.
-ghost use Rattle.std.specs.Prelude.{◌≡◌, ◌↔◌, ◌<◌, ◌++◌, ◌∷◌, List, ℕ, true, [], Some, None, IsTrue};
+ghost use Rattle.std.specs.Prelude.{◌≡◌, ◌↔◌, ◌<◌, ◌++◌, ◌∷◌, List, ℕ, true, [], None, IsTrue};
 ghost use Rattle.std.specs.Prelude.{length, take, min, max};
-ghost use Rattle.la_tick.specs.Paces.{IsSameManner};
-ghost use Rattle.la_tick.specs.Ticks.{Hearing, Stands, ends_behind, in_hand, patience};
+ghost use Rattle.la_tick.specs.Ticks.{Anew, Came, Passed, Hearing, Stands, ends_behind, in_hand, patience};
 
 use crate::chunk::Chunk;
 use crate::feed::{Ending, Feed, Filled};
@@ -20,20 +19,18 @@ fn ends_behind(ended: bool, bytes: &[u8]) -> bool
 }
 
 impl Feed {
-    // Nothing came yet. The first interval is of so many milliseconds, at least of one, and it begins anew with what
-    // comes, or not.
-    pub(crate) fn new(chunk: Chunk, first: u64, anew: bool) -> Feed
+    // Nothing came yet. The first interval is of so many milliseconds, at least of one.
+    pub(crate) fn new(chunk: Chunk, first: u64) -> Feed
         requires { chunk ≡ [] }
         ensures stands { Stands result [] [] }
         ensures first { result.pace.first ≡ max first 1 }
-        ensures anew { result.pace.anew ≡ anew }
         ensures open { result.ending ≡ None }
     {
         Feed {
             chunk,
             taken: 0,
             whole: true,
-            pace: Pace::new(first, anew),
+            pace: Pace::new(first),
             ending: None,
         }
     }
@@ -60,13 +57,12 @@ impl Feed {
     pub(crate) fn hear_bytes(&mut self, filled: Filled) -> Chunk
         requires { in_hand self.old ≡ [] }
         ensures stands { (heard : Hearing) (handed : List ℕ) → Stands self.old heard handed
-            → Stands self.new (Some filled.chunk ∷ heard) handed }
+            → Stands self.new (Came filled.chunk ∷ heard) handed }
         ensures some { 0 < length (in_hand self.new) }
         ensures ending { self.new.ending ≡ self.old.ending }
-        ensures manner { IsSameManner self.old.pace self.new.pace }
+        ensures first { self.new.pace.first ≡ self.old.pace.first }
     {
         self.whole = ends_behind(self.whole, filled.chunk.as_slice());
-        self.pace = self.pace.after_input();
         self.taken = 0;
         mem::replace(&mut self.chunk, filled.chunk)
     }
@@ -76,14 +72,25 @@ impl Feed {
         requires done { in_hand self.old ≡ [] }
         requires whole { self.old.whole ≡ true }
         ensures stands { (heard : Hearing) (handed : List ℕ) → Stands self.old heard handed
-            → Stands self.new (None ∷ heard) handed }
+            → Stands self.new (Passed ∷ heard) handed }
         ensures some { 0 < length (in_hand self.new) }
         ensures ending { self.new.ending ≡ self.old.ending }
-        ensures manner { IsSameManner self.old.pace self.new.pace }
+        ensures first { self.new.pace.first ≡ self.old.pace.first }
     {
         self.taken = 0;
         self.chunk.fill(b"tick\n");
         self.pace = self.pace.after_tick();
+    }
+
+    // The interval is the first again.
+    pub(crate) fn begin_anew(&mut self)
+        ensures stands { (heard : Hearing) (handed : List ℕ) → Stands self.old heard handed
+            → Stands self.new (Anew ∷ heard) handed }
+        ensures hand { in_hand self.new ≡ in_hand self.old }
+        ensures ending { self.new.ending ≡ self.old.ending }
+        ensures first { self.new.pace.first ≡ self.old.pace.first }
+    {
+        self.pace = self.pace.at_first();
     }
 
     // Hands on as many bytes as there is room for, of those that there are. Answers how many.
@@ -92,7 +99,7 @@ impl Feed {
             → Stands self.new heard (handed ++ take result buf.new) }
         ensures count { result ≡ min (length buf.old) (length (in_hand self.old)) }
         ensures ending { self.new.ending ≡ self.old.ending }
-        ensures manner { IsSameManner self.old.pace self.new.pace }
+        ensures first { self.new.pace.first ≡ self.old.pace.first }
     {
         let chunk = self.chunk.as_slice();
         let ahead = &chunk[self.taken..];

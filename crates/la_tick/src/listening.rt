@@ -1,17 +1,17 @@
 // The reads of the reader that ticks.
-ghost use Rattle.std.specs.Prelude.{◌≡◌, ◌<◌, ◌++◌, List, ℕ, true, [], None, IsSome, length};
+ghost use Rattle.std.specs.Prelude.{◌≡◌, ◌<◌, ◌++◌, ◌∷◌, List, ℕ, true, [], None, IsSome, length};
 ghost use Rattle.std.specs.Io.{ReadsAtMost};
 ghost use Rattle.std.specs.declared.io.ErrorKind.TheVariants.{BrokenPipe};
 ghost use Rattle.la_tick.specs.declared.feed.Ending.TheVariants.{Failed};
 ghost use Rattle.la_tick.specs.declared.reading.Note.TheVariants.{Last};
-ghost use Rattle.la_tick.specs.Paces.{IsSameManner};
-ghost use Rattle.la_tick.specs.Ticks.{Hearing, Stands, HandsOn, EndsAs, in_hand, handed_by};
+ghost use Rattle.la_tick.specs.Ticks.{Anew, Hearing, Stands, HandsOn, EndsAs, in_hand, handed_by};
 
 use crate::Ticked;
 use crate::chunk::Chunk;
 use crate::feed::Ending;
 use crate::reading::Note;
 use crossbeam_channel::RecvTimeoutError;
+use la_io::Paced;
 use std::io::{self, ErrorKind, Read};
 use std::sync::Wait;
 use std::time::{Clock, Duration, Instant};
@@ -73,14 +73,12 @@ impl<R: Wait + Clock + Drop> Ticked<R> {
         ensures hands { (heard : Hearing) (handed : List ℕ) → Stands self.old heard handed
             → HandsOn self.new heard handed [] }
         ensures some { self.new.ending ≡ None → 0 < length (in_hand self.new) }
-        ensures manner { IsSameManner self.old.pace self.new.pace }
+        ensures first { self.new.pace.first ≡ self.old.pace.first }
     {
         match self.listen() {
             Some(Note::Bytes(filled)) => {
-                let slow = self.feed.pace.is_slow();
                 let spent = self.feed.hear_bytes(filled);
                 self.give_back(spent);
-                self.begin_if(slow);
             }
             Some(Note::Last(ending)) => self.feed.ending = Some(ending),
             None => {
@@ -96,7 +94,7 @@ impl<R: Wait + Clock + Drop> Ticked<R> {
             → HandsOn self.new heard handed [] }
         ensures some { self.new.ending ≡ None → 0 < length (in_hand self.new) }
         ensures stays { IsSome self.old.ending → self.new ≡ self.old }
-        ensures manner { IsSameManner self.old.pace self.new.pace }
+        ensures first { self.new.pace.first ≡ self.old.pace.first }
     {
         if self.feed.ending.is_none() && self.feed.is_done() {
             self.hear();
@@ -108,16 +106,15 @@ impl<R: Wait + Clock + Drop> Read for Ticked<R> {
     /// Hands on the bytes that come next: of the input, or of a tick.
     ///
     /// It waits where all that came is handed on: within a line without a limit, and between lines for what is left of
-    /// the interval. Where that has passed it hands on a tick, and doubles the interval, up to a minute; by
-    /// [`Ticked::new`] the first one begins anew with the bytes that come next. At the input's end it answers 0, and
-    /// once a read of the input failed that error, for good.
+    /// the interval. Where that has passed it hands on a tick, and doubles the interval, up to a minute. At the input's
+    /// end it answers 0, and once a read of the input failed that error, for good.
     fn read(&mut self, buf: &mut [u8]) -> io::Result<usize>
         ensures bound { ReadsAtMost result buf.new }
         ensures hands { (heard : Hearing) (handed : List ℕ) → Stands self.old heard handed
             → HandsOn self.new heard handed (handed_by result buf.new) }
         ensures ends { 0 < length buf.old → EndsAs self.new.ending result }
         ensures stays { IsSome self.old.ending → self.new ≡ self.old }
-        ensures manner { IsSameManner self.old.pace self.new.pace }
+        ensures first { self.new.pace.first ≡ self.old.pace.first }
     {
         if buf.is_empty() {
             return Ok(0);
@@ -128,5 +125,20 @@ impl<R: Wait + Clock + Drop> Read for Ticked<R> {
             Some(Ending::Over) => Ok(0),
             Some(Ending::Failed(kind)) => Err(io::Error::from(kind)),
         }
+    }
+}
+
+impl<R: Wait + Clock + Drop> Paced for Ticked<R> {
+    /// The interval is the first again, and where it had doubled it begins now. What is in hand stays so.
+    fn begin_anew(&mut self)
+        ensures anew { (heard : Hearing) (handed : List ℕ) → Stands self.old heard handed
+            → Stands self.new (Anew ∷ heard) handed }
+        ensures hand { in_hand self.new ≡ in_hand self.old }
+        ensures ending { self.new.ending ≡ self.old.ending }
+        ensures first { self.new.pace.first ≡ self.old.pace.first }
+    {
+        let slow = self.feed.pace.is_slow();
+        self.feed.begin_anew();
+        self.begin_if(slow);
     }
 }

@@ -1,5 +1,5 @@
 // The reader, and the thread that reads for it.
-ghost use Rattle.std.specs.Prelude.{◌≡◌, [], max, None, IfOk, true, false};
+ghost use Rattle.std.specs.Prelude.{◌≡◌, [], max, None, IfOk};
 ghost use Rattle.la_tick.specs.declared.feed.Feed.{Feed};
 ghost use Rattle.la_tick.specs.Ticks.{Stands};
 ghost use Rattle.la_tick.specs.declared.ticked.TickFault.TheVariants.{Memory};
@@ -69,8 +69,9 @@ fn chunks<R: Wait>(rt: &R, alloc: Global) -> Result<(Sender<Chunk>, Receiver<Chu
 
 impl<R: Threads + Wait + Clock + Copy + Send + 'static> Ticked<R> {
     /// A reader of the input's bytes, whose first interval is of so many milliseconds, at least of one. It begins now,
-    /// each next one with a tick, and where it has doubled, the first one anew with what comes then. No other input
-    /// puts a tick off, so that who is always busy ticks too.
+    /// and each next one with a tick. It doubles with each tick, up to a minute, until
+    /// [`begin_anew`](la_io::Paced::begin_anew) makes it the first again. No input puts a tick off, so that who is
+    /// always busy ticks too.
     ///
     /// A thread of its own reads the input, at most 16,384 bytes ahead, until the input ends or a read fails. It is
     /// never joined: where it waits in a read it ends with the process. Memory is taken here alone.
@@ -82,26 +83,9 @@ impl<R: Threads + Wait + Clock + Copy + Send + 'static> Ticked<R> {
     ) -> Result<Ticked<R>, TickFault>
         ensures begins { IfOk result (λ t. Stands t [] []) }
         ensures first { IfOk result (λ t. t.pace.first ≡ max first 1) }
-        ensures anew { IfOk result (λ t. t.pace.anew ≡ true) }
         ensures open { IfOk result (λ t. t.ending ≡ None) }
     {
-        let feed = Feed::new(Chunk::new(alloc)?, first, true);
-        Ticked::over(rt, alloc, input, feed)
-    }
-
-    /// The same, but none begins anew, whatever comes: for one who waits for a line among many.
-    pub fn whatever_comes<I: Read + Send + Drop + 'static>(
-        rt: R,
-        alloc: Global,
-        input: I,
-        first: u64,
-    ) -> Result<Ticked<R>, TickFault>
-        ensures begins { IfOk result (λ t. Stands t [] []) }
-        ensures first { IfOk result (λ t. t.pace.first ≡ max first 1) }
-        ensures anew { IfOk result (λ t. t.pace.anew ≡ false) }
-        ensures open { IfOk result (λ t. t.ending ≡ None) }
-    {
-        let feed = Feed::new(Chunk::new(alloc)?, first, false);
+        let feed = Feed::new(Chunk::new(alloc)?, first);
         Ticked::over(rt, alloc, input, feed)
     }
 

@@ -1,6 +1,5 @@
 use Rattle.std.proofs.Common.{◌≡◌, List, ℕ, true, ◌++◌, ap, sym, ◌∙◌, append-nil}
 use Rattle.la_tick.specs.Ticks.{input, in_hand}
-use Rattle.la_tick.proofs.Hearing.{goes_on}
 use Rattle.la_tick.proofs.Whole.{ends_append}
 use Rattle.la_tick.proofs.feed.Feed.hear_bytes.Goals as goal
 
@@ -14,6 +13,5 @@ returns-clause-stands c heard handed was =
           c.ends_behind-self.ensures
           ∙ rw (c.as_slice.ensures, was.whole) (sym (ends_append true (input heard) c.args.filled.chunk));
       between = was.between;
-      interval =
-          goes_on _ _ heard c.after_input-self.ensures.manner c.after_input-self.ensures.now was.interval;
+      interval = was.interval;
     }
