@@ -1,6 +1,6 @@
 // A real file as a disk.
 ghost use Rattle.std.specs.Prelude.{◌≡◌, ◌≢◌, IfOk, IfErr};
-ghost use Rattle.la_journal.specs.Held.{held_bytes, faults_of, moment_of, may_leave_of, left_since_of, only_now_of, counts_now_of, stays_of};
+ghost use Rattle.la_journal.specs.Held.{held_bytes, faults_of, aside_of, moment_of, may_leave_of, left_since_of, only_now_of, counts_now_of, stays_of};
 ghost use Rattle.la_disk.specs.declared.fault.OpenFault.TheVariants.{Locked};
 
 use crate::opening::{keep_access, make, open_or_make, path_of, refuse_other, remove_leftover};
@@ -98,6 +98,8 @@ impl<R: Files + Drop> Disk for FileDisk<R> {
 
     ghost faults = { λ d. faults_of d.contents };
 
+    ghost aside = { λ d. aside_of d.contents };
+
     ghost counts_now = { λ d t c le left. counts_now_of d.contents t c le left };
 
     ghost only_now = { λ d c left. only_now_of d.contents c left };
@@ -131,6 +133,7 @@ impl<R: Files + Drop> Disk for FileDisk<R> {
             self.contents.fail();
             return Err(DiskFault);
         }
+        self.contents.set_aside(torn);
         Ok(())
     }
 

@@ -1,6 +1,6 @@
 // What is noted of a file that is the program's.
 ghost use Rattle.std.specs.Prelude.{◌≡◌};
-ghost use Rattle.la_journal.specs.Held.{held_bytes, moment_of, may_leave_of, left_since_of};
+ghost use Rattle.la_journal.specs.Held.{held_bytes, aside_of, moment_of, may_leave_of, left_since_of};
 ghost use Rattle.la_journal.specs.Held.{only_now_of, counts_now_of, stays_of};
 
 use la_journal::{Contents, Disk, DiskFault, Record};
@@ -23,6 +23,8 @@ impl Disk for ProgramFile {
 
     ghost faults = { λ _. 0 };
 
+    ghost aside = { λ f. aside_of f.contents };
+
     ghost counts_now = { λ f t c le left. counts_now_of f.contents t c le left };
 
     ghost only_now = { λ f c left. only_now_of f.contents c left };
@@ -43,7 +45,8 @@ impl Disk for ProgramFile {
         Ok(())
     }
 
-    fn set_aside(&mut self, _torn: &[u8]) -> Result<(), DiskFault> {
+    fn set_aside(&mut self, torn: &[u8]) -> Result<(), DiskFault> {
+        self.contents.set_aside(torn);
         Ok(())
     }
 

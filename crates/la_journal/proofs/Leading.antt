@@ -4,7 +4,7 @@ use Rattle.std.specs.Prelude.{⊤, if◌then◌else◌}
 use Rattle.std.proofs.Math.Seq.{take-append-add}
 use Rattle.std.proofs.lemmas.List.{take-append-le, length-append}
 use Rattle.la_journal.specs.Journal.{Journal, is_sound, lines, state_in, begun_by, journal, says, IsCallLine}
-use Rattle.la_journal.specs.Machine.{call_unless, step_named, plays_line, begins_with, lines_lead, state_after, calls, steps_from, steps, LeadsToSome}
+use Rattle.la_journal.specs.Machine.{call_unless, step_named, plays_line, begins_with, lines_lead, state_after, steps_from, steps, LeadsToSome}
 use Rattle.la_journal.proofs.Files.{Keeps}
 use Rattle.la_journal.proofs.StepsMore.{from_append, none_stays}
 

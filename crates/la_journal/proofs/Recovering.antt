@@ -1,5 +1,5 @@
 -- What a recovery leaves: a file of the groups that were found.
-use Rattle.std.proofs.Common.{◌≡◌, inl, inr, ⊎_elim, ℕ, List, [], ◌∷◌, ◌++◌, Option, Some, refl, sym, ◌∙◌, ap, subst, take, length, arith, suc, true}
+use Rattle.std.proofs.Common.{◌≡◌, inl, inr, ⊎_elim, ℕ, List, [], ◌∷◌, ◌++◌, Option, Some, refl, sym, ◌∙◌, ap, subst, take, drop, length, arith, suc, true}
 use Rattle.std.proofs.lemmas.Bool.Decides.{nat_tests}
 use Rattle.std.specs.Prelude.{◌==◌, Result, Ok, Err, IfOk, IfErr}
 use Rattle.la_journal.specs.Lines.{IsClean}
@@ -8,8 +8,8 @@ use Rattle.la_journal.specs.Records.{parts, head_line, digest}
 use Rattle.la_journal.specs.Journal.{lines, lines_in}
 use Rattle.la_journal.specs.Machine.{state_after}
 use Rattle.la_journal.specs.Durable.{IsSettled, IsSameOr}
-use Rattle.la_journal.specs.Playing.{IsPlayed, HasNothingBehind}
-use Rattle.la_journal.proofs.Played.{front_parts, front_lines, front_leads, new_parts}
+use Rattle.la_journal.specs.Playing.{IsPlayed, HasNothingBehind, rest_in}
+use Rattle.la_journal.proofs.Played.{front_parts, front_rest, front_lines, front_leads, new_parts}
 
 -- of a result, by what is known of it
 pub ok_both : {T E : Type 0} (r : Result T E) (P Q R : T → Type 0) → ((x : T) → P x → Q x → R x) → IfOk r P → IfOk r Q
@@ -64,6 +64,9 @@ module _ (text last found front : List ℕ) (end : ℕ) (played : IsPlayed text 
 
   pub played_lines : lines front ≡ lines found
   played_lines = ap lines is ∙ front_lines found played.has played.read end played.up_to
+
+  pub played_rest : drop end found ≡ rest_in (parts found)
+  played_rest = front_rest found played.has played.read end played.up_to ∙ sym (ap rest_in played.read)
 
   pub played_leads : {S C : Type 0} (head : S → List ℕ) (named_state : List ℕ → Option S) (named : List ℕ → Option C)
       (step : S → C → Option S) (start : S) → text ≡ head start

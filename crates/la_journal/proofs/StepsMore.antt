@@ -1,5 +1,5 @@
 -- One call more.
-use Rattle.std.proofs.Common.{◌≡◌, ◌+◌, List, [], ◌∷◌, ◌++◌, Option, None, refl}
+use Rattle.std.proofs.Common.{◌≡◌, List, [], ◌∷◌, ◌++◌, Option, None, refl}
 use Rattle.la_journal.specs.Machine.{goes_on, steps_from}
 
 pub from_append : {S C : Type 0} (step : S → C → Option S) (xs ys : List C) (state : Option S)

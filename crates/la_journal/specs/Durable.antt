@@ -1,5 +1,5 @@
 -- When a machine stands on its journal, and why an input or a journal is refused.
-use Rattle.std.specs.Prelude.{◌≡◌, ◌≢◌, ◌⊎◌, ⊤, ℕ, suc, ◌+◌, ◌-◌, ◌<◌, Bool, true, false, List, [], ◌∷◌, ◌++◌, Option}
+use Rattle.std.specs.Prelude.{◌≡◌, ◌≢◌, ◌⊎◌, ⊤, ℕ, suc, ◌-◌, ◌<◌, Bool, true, false, List, [], ◌∷◌, ◌++◌, Option}
 use Rattle.std.specs.Prelude.{Some, None, length, take, if◌then◌else◌, ◌==◌}
 use Rattle.la_journal.specs.Disk.{Only, IsUnread}
 use Rattle.la_journal.specs.Machine.{state_after}

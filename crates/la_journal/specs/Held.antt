@@ -20,6 +20,10 @@ leaving torn contents = take (synced_count contents) (held_bytes contents) ++ to
 abbrev pub faults_of : Contents → ℕ
 faults_of contents = length contents.failures.events
 
+-- what was last cut off and set aside
+abbrev pub aside_of : Contents → List ℕ
+aside_of contents = bytes_in (now_of contents.cut.events)
+
 abbrev pub moment_of : Contents → ℕ
 moment_of contents = length contents.past.events
 

@@ -63,6 +63,15 @@ abbrev pub rest_in : Option Parts → List ℕ
 rest_in None = []
 rest_in (Some p) = p.rest
 
+-- what is aside once these bytes were cut off: they are, and where none was cut, what was aside before
+abbrev pub aside_after : (cut before : List ℕ) → List ℕ
+aside_after [] before = before
+aside_after (b ∷ cut) before = b ∷ cut
+
+-- what is cut off a file is set aside first: the file is as it was, or that is done
+abbrev pub IsSetAsideFirst : (before after : List ℕ) → (cut aside : List ℕ) → Type 0
+IsSetAsideFirst before after cut aside = (after ≡ before) ⊎ (aside ≡ cut)
+
 -- what is left of a file: all but that, or a head with this text where the file has no byte
 abbrev pub recovered_file : (text file : List ℕ) → List ℕ
 recovered_file text [] = head_line text ++ 10 ∷ []

@@ -48,6 +48,12 @@ abbrev pub are_no_records : List (List ℕ) → Bool
 are_no_records [] = true
 are_no_records (line ∷ rest) = not (is_record line) && are_no_records rest
 
+-- how many moments of the disk a commit takes: an append and a sync, however many lines are staged, and none where no
+-- line is
+abbrev pub moments_for : List ℕ → ℕ
+moments_for [] = 0
+moments_for (b ∷ text) = 2
+
 -- the room that staged lines take with their record, at most
 abbrev pub room_for : List ℕ → ℕ
 room_for [] = 0

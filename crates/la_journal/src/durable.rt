@@ -65,6 +65,8 @@ impl<M: Machine, D: Disk> Durable<M, D> {
             × (M.step (M.state self.old.machine) (M.call input.now) ≡ Some (M.state self.new.machine))) }
         ensures answer { IfOk result (λ output. M.answer output ≡ M.answers (M.state self.old.machine) (M.call input.now)) }
 
+        ensures once { OnOk result (D.moment self.new.disk ≡ D.moment self.old.disk + 2) }
+
         // Where the journal led to the machine's state it does so again.
         ensures leads { self.new.closed ≡ false → (start : M.State)
             → state_after M.head M.named_state M.named M.step start (D.seen self.old.disk) ≡ Some (M.state self.old.machine)
@@ -114,8 +116,8 @@ impl<M: Machine, D: Disk> Durable<M, D> {
         ensures written { OnOk result (D.seen self.new.disk ≡ D.seen self.old.disk ++ with_record record_line self.old.last group.old.items) }
         ensures durable { OnOk result ((self.new.closed ≡ false) × Only (D.seen self.new.disk) (D.may_leave self.new.disk)) }
         ensures any_moment { LeavesOnly D.moment D.left_since self.old.disk self.new.disk (MayBeTorn (with_record record_line self.old.last group.old.items) (D.may_leave self.old.disk)) }
-        ensures failed { OnErr result ((self.new.closed ≡ true) × (D.faults self.old.disk < D.faults self.new.disk)) }
-        ensures later { D.faults self.old.disk ≤ D.faults self.new.disk }
+        ensures once { OnOk result (D.moment self.new.disk ≡ D.moment self.old.disk + 2) }
+        ensures failed { OnErr result ((self.new.closed ≡ true) × (D.faults self.old.disk < D.faults self.new.disk)) × (D.faults self.old.disk ≤ D.faults self.new.disk) }
     {
         match put(&mut self.disk, &mut self.last, group) {
             Ok(()) => Ok(()),
@@ -145,11 +147,11 @@ fn put<D: Disk>(disk: &mut D, last: &mut [u8; DIGITS], group: &mut Vec<u8>) -> R
     ensures group { group.new.items ≡ with_record record_line last.old group.old.items }
     ensures room { vec_capacity group.old ≤ vec_capacity group.new }
     ensures last { last.new ≡ link (record_line last.old group.old.items) }
-    ensures written { OnOk result (D.seen disk.new
-        ≡ D.seen disk.old ++ with_record record_line last.old group.old.items) }
+    ensures written { OnOk result (D.seen disk.new ≡ D.seen disk.old ++ with_record record_line last.old group.old.items) }
     ensures durable { OnOk result (Only (D.seen disk.new) (D.may_leave disk.new)) }
     ensures any_moment { LeavesOnly D.moment D.left_since disk.old disk.new
         (MayBeTorn (with_record record_line last.old group.old.items) (D.may_leave disk.old)) }
+    ensures once { OnOk result (D.moment disk.new ≡ D.moment disk.old + 2) }
     ensures failed { OnErr result (D.faults disk.old < D.faults disk.new) }
     ensures later { D.faults disk.old ≤ D.faults disk.new }
 {

@@ -3,7 +3,7 @@ ghost use Rattle.std.specs.Prelude.{◌≡◌, ◌⊎◌, ◌++◌, ◌+◌, ◌
 ghost use Rattle.la_journal.specs.Disk.{Only, CrashesFollow, Torn, Elapses};
 ghost use Rattle.la_journal.specs.Note.{now_of};
 ghost use Rattle.la_journal.specs.Outcomes.{LeftAt, LeftSince};
-ghost use Rattle.la_journal.specs.Held.{held_bytes, synced_count, faults_of, moment_of, may_leave_of, left_since_of, TimeGoesOn};
+ghost use Rattle.la_journal.specs.Held.{held_bytes, synced_count, faults_of, aside_of, moment_of, may_leave_of, left_since_of, TimeGoesOn};
 
 use crate::Contents;
 use crate::happened::Happened;
@@ -26,6 +26,7 @@ impl Contents {
         Contents {
             past,
             failures: Record::new(),
+            cut: Record::of_another(),
         }
     }
 
@@ -42,6 +43,7 @@ impl Contents {
         Contents {
             past,
             failures: Record::new(),
+            cut: Record::new(),
         }
     }
 
@@ -69,6 +71,7 @@ impl Contents {
         ensures time { TimeGoesOn self.old self.new }
         ensures moment { moment_of self.new ≡ moment_of self.old + 1 }
         ensures faults { faults_of self.new ≡ faults_of self.old }
+        ensures aside { aside_of self.new ≡ aside_of self.old }
     {
         self.past.note(&Happened::Appended, bytes);
     }
@@ -82,6 +85,7 @@ impl Contents {
         ensures time { TimeGoesOn self.old self.new }
         ensures moment { moment_of self.new ≡ moment_of self.old + 1 }
         ensures faults { faults_of self.new ≡ faults_of self.old }
+        ensures aside { aside_of self.new ≡ aside_of self.old }
     {
         self.past.note(&Happened::Synced, &[]);
     }
@@ -94,6 +98,7 @@ impl Contents {
         ensures time { TimeGoesOn self.old self.new }
         ensures moment { moment_of self.new ≡ moment_of self.old + 1 }
         ensures faults { faults_of self.new ≡ faults_of self.old }
+        ensures aside { aside_of self.new ≡ aside_of self.old }
     {
         self.past.note(&Happened::Replaced, bytes);
     }
@@ -107,7 +112,22 @@ impl Contents {
         ensures time { TimeGoesOn self.old self.new }
         ensures moment { moment_of self.new ≡ moment_of self.old }
         ensures faults { faults_of self.new ≡ faults_of self.old + 1 }
+        ensures aside { aside_of self.new ≡ aside_of self.old }
     {
         self.failures.note(&Happened::Failed, &[]);
+    }
+
+    /// Notes that these bytes are set aside, which are about to be cut off.
+    pub fn set_aside(&mut self, torn: &[u8])
+        ensures aside { aside_of self.new ≡ torn.now }
+        ensures bytes { held_bytes self.new ≡ held_bytes self.old }
+        ensures kept { synced_count self.new ≡ synced_count self.old }
+        ensures crash { (c : List ℕ) → may_leave_of self.new c → may_leave_of self.old c }
+        ensures still { (c : List ℕ) → may_leave_of self.old c → may_leave_of self.new c }
+        ensures time { TimeGoesOn self.old self.new }
+        ensures moment { moment_of self.new ≡ moment_of self.old }
+        ensures faults { faults_of self.new ≡ faults_of self.old }
+    {
+        self.cut.note(&Happened::Replaced, torn);
     }
 }

@@ -3,7 +3,7 @@ ghost use Rattle.std.specs.Prelude.{◌≡◌, ◌≤◌, ◌++◌, ◌↔◌, L
 ghost use Rattle.la_journal.specs.Disk.{Only, IsUnread};
 ghost use Rattle.la_journal.specs.Records.{parts};
 ghost use Rattle.la_journal.specs.Outcomes.{IsNoCrash};
-ghost use Rattle.la_journal.specs.Held.{held_bytes, synced_count, leaving, faults_of, moment_of};
+ghost use Rattle.la_journal.specs.Held.{held_bytes, synced_count, leaving, faults_of, aside_of, moment_of};
 ghost use Rattle.la_journal.specs.Held.{may_leave_of, left_since_of, TimeGoesOn, only_now_of, counts_now_of, stays_of};
 ghost use Rattle.la_journal.specs.Starts.{IsStart};
 
@@ -186,6 +186,8 @@ impl Disk for MemoryDisk {
 
     ghost faults = { λ d. faults_of d.contents };
 
+    ghost aside = { λ d. aside_of d.contents };
+
     ghost counts_now = { λ d t c le left. counts_now_of d.contents t c le left };
 
     ghost only_now = { λ d c left. only_now_of d.contents c left };
@@ -219,7 +221,8 @@ impl Disk for MemoryDisk {
         Ok(())
     }
 
-    fn set_aside(&mut self, _torn: &[u8]) -> Result<(), DiskFault> {
+    fn set_aside(&mut self, torn: &[u8]) -> Result<(), DiskFault> {
+        self.contents.set_aside(torn);
         Ok(())
     }
 

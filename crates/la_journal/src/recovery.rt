@@ -6,7 +6,7 @@ ghost use Rattle.la_journal.specs.Records.{parts, ended, end_count, head_line, l
 ghost use Rattle.la_journal.specs.Journal.{lines, journal, state_in, in_a_row};
 ghost use Rattle.la_journal.specs.Machine.{state_after, lines_lead};
 ghost use Rattle.la_journal.specs.Durable.{IsSettled, IsSameOr, IsUntouched, alike};
-ghost use Rattle.la_journal.specs.Playing.{leads_more, are_some, rest_in, StopsAt, StopsFrom, StopsAmong, IsNotPlayed, IsPlayed, HasNothingBehind, recovered_file};
+ghost use Rattle.la_journal.specs.Playing.{leads_more, are_some, rest_in, StopsAt, StopsFrom, StopsAmong, IsNotPlayed, IsPlayed, HasNothingBehind, recovered_file, aside_after, IsSetAsideFirst};
 ghost use Rattle.la_journal.specs.declared.recovery.Unplayed.TheVariants.{Disk as Failed};
 
 use crate::damage::is_damage;
@@ -70,6 +70,10 @@ pub fn recover<M: Machine, D: Disk>(
     ensures cut { IfOk result (λ durable. durable.cut ≡ length (rest_in (parts (D.seen disk)))) }
     ensures written { IfOk result (λ durable. D.seen durable.disk
         ≡ recovered_file (M.head (M.state start)) (D.seen disk)) }
+    ensures aside { IfOk result (λ durable. D.aside durable.disk
+        ≡ aside_after (rest_in (parts (D.seen disk))) (D.aside disk)) }
+    ensures aside_first { IfErr result (λ e. IsSetAsideFirst (D.seen disk) (D.seen e.1)
+        (aside_after (rest_in (parts (D.seen disk))) (D.aside disk)) (D.aside e.1)) }
     ensures later { IfOk result (λ durable. D.faults disk ≤ D.faults durable.disk) }
 
     // A crash at any moment leaves what might have been left before, or a file that leads to the same.
@@ -123,6 +127,9 @@ fn settle<M: Machine, D: Disk>(
     ensures made { IfOk result (λ durable. (durable.machine ≡ machine) × (durable.closed ≡ false)
         × (durable.cut ≡ length torn.now)) }
     ensures written { IfOk result (λ durable. D.seen durable.disk ≡ file.now) }
+    ensures aside { IfOk result (λ durable. D.aside durable.disk ≡ aside_after torn.now (D.aside disk)) }
+    ensures aside_first { IfErr result (λ e. IsSetAsideFirst (D.seen disk) (D.seen e.1)
+        (aside_after torn.now (D.aside disk)) (D.aside e.1)) }
     ensures stored { IfOk result (λ durable. Only file.now (D.may_leave durable.disk)) }
     ensures any_moment { IfOk result (λ durable. LeavesOnly D.moment D.left_since disk durable.disk
         (MayBeOr (D.may_leave disk) file.now)) }

@@ -1,12 +1,12 @@
 // Calls that are taken one by one, and whose lines are put on the disk together.
-ghost use Rattle.std.specs.Prelude.{◌≡◌, ◌++◌, ◌∷◌, [], ◌<◌, ◌≤◌, ◌⊎◌, List, ℕ, length, map, vec_capacity, true, false, Some, IfOk, IfErr, OnOk, OnErr};
+ghost use Rattle.std.specs.Prelude.{◌≡◌, ◌++◌, ◌∷◌, [], ◌+◌, ◌<◌, ◌≤◌, ◌⊎◌, List, ℕ, length, map, vec_capacity, true, false, Some, IfOk, IfErr, OnOk, OnErr};
 ghost use Rattle.la_journal.specs.Disk.{LeavesOnly, Elapses};
 ghost use Rattle.la_journal.specs.Lines.{file_of};
 ghost use Rattle.la_journal.specs.Journal.{lines};
 ghost use Rattle.la_journal.specs.Records.{ended};
 ghost use Rattle.la_journal.specs.Machine.{state_after, steps, LeadsToSome};
 ghost use Rattle.la_journal.specs.Durable.{IsSettled};
-ghost use Rattle.la_journal.specs.Staging.{IsStageRefusal, IsRefusedBy, IsNotCommitted, kept_unless, are_no_records, room_for};
+ghost use Rattle.la_journal.specs.Staging.{IsStageRefusal, IsRefusedBy, IsNotCommitted, kept_unless, are_no_records, room_for, moments_for};
 
 use crate::durable::encode;
 use crate::records::ROOM;
@@ -120,6 +120,8 @@ impl<M: Machine, D: Disk> Staged<M, D> {
         ensures written { OnOk result (D.seen self.new.durable.disk
             ≡ D.seen self.old.durable.disk ++ self.new.written.items) }
         ensures none { OnOk result (self.old.text.items ≡ [] → self.new.written.items ≡ []) }
+        ensures once { OnOk result (D.moment self.new.durable.disk
+            ≡ D.moment self.old.durable.disk + moments_for self.old.text.items) }
         ensures machine { self.new.durable.machine ≡ self.old.durable.machine }
         ensures open { self.new.durable.closed ≡ false → IsSettled D.seen D.may_leave self.new.durable.disk }
         ensures same { OnErr result ((self.new.text.items ≡ self.old.text.items)

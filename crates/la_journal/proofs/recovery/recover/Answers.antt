@@ -1,12 +1,12 @@
-use Rattle.std.proofs.Common.{◌≡◌, arith, [], ◌∷◌, ◌++◌, List, ℕ, Some, take, sym, ◌∙◌, ap, subst, rules}
+use Rattle.std.proofs.Common.{◌≡◌, arith, [], ◌∷◌, ◌++◌, List, ℕ, Some, take, drop, sym, ◌∙◌, ap, subst, rules}
 use Rattle.std.specs.Prelude.{vec_len}
 use Rattle.la_journal.specs.Lines.{IsClean}
-use Rattle.la_journal.specs.Records.{head_line, digest}
+use Rattle.la_journal.specs.Records.{parts, head_line, digest}
 use Rattle.la_journal.specs.Journal.{lines}
 use Rattle.la_journal.specs.Machine.{state_after}
-use Rattle.la_journal.specs.Playing.{IsPlayed}
+use Rattle.la_journal.specs.Playing.{IsPlayed, aside_after, IsSetAsideFirst, rest_in}
 use Rattle.la_journal.proofs.Played.{new_leads}
-use Rattle.la_journal.proofs.Recovering.{ok_both, ok_one, ok_three, err_one, new_whole, new_lines, played_whole, played_lines, played_leads, is_settled, leaves_same, nothing}
+use Rattle.la_journal.proofs.Recovering.{ok_both, ok_one, ok_three, err_one, new_whole, new_lines, played_whole, played_rest, played_lines, played_leads, is_settled, leaves_same, nothing}
 use Rattle.la_journal.proofs.recovery.recover.Goals as goal
 
 pub settle-requires : goal.settle-requires
@@ -186,6 +186,36 @@ returns-in-Ok-play-clause-same g c =
     ∙ played_lines c.in-Ok.head.items c.in-Ok-play.played.last (g.D.Disk.seen c.args.disk) c.split_at.result.0.now
     c.in-Ok-play.played.end played front)
     c.settle-in-Ok-play.ensures.written
+
+pub returns-in-Ok-play-clause-aside : goal.returns-in-Ok-play-clause-aside
+returns-in-Ok-play-clause-aside g c =
+    let front : c.split_at.result.0.now ≡ take c.in-Ok-play.played.end (g.D.Disk.seen c.args.disk) = search rules in
+    let back : c.split_at.result.1.now ≡ drop c.in-Ok-play.played.end (g.D.Disk.seen c.args.disk) = search rules in
+    let played : IsPlayed c.in-Ok.head.items (g.D.Disk.seen c.args.disk) c.in-Ok-play.played.end
+    c.in-Ok-play.played.last = search rules in
+    let rest : c.split_at.result.1.now ≡ rest_in (parts (g.D.Disk.seen c.args.disk)) =
+    back ∙ played_rest c.in-Ok.head.items c.in-Ok-play.played.last (g.D.Disk.seen c.args.disk)
+    c.split_at.result.0.now c.in-Ok-play.played.end played front in
+    ok_one c.settle-in-Ok-play.result _ _
+    (λ d aside. aside ∙ ap (λ (cut : List ℕ). aside_after cut (g.D.Disk.aside c.args.disk)) rest)
+    c.settle-in-Ok-play.ensures.aside
+
+pub returns-in-Ok-play-clause-aside_first : goal.returns-in-Ok-play-clause-aside_first
+returns-in-Ok-play-clause-aside_first g c =
+    let front : c.split_at.result.0.now ≡ take c.in-Ok-play.played.end (g.D.Disk.seen c.args.disk) = search rules in
+    let back : c.split_at.result.1.now ≡ drop c.in-Ok-play.played.end (g.D.Disk.seen c.args.disk) = search rules in
+    let played : IsPlayed c.in-Ok.head.items (g.D.Disk.seen c.args.disk) c.in-Ok-play.played.end
+    c.in-Ok-play.played.last = search rules in
+    let rest : c.split_at.result.1.now ≡ rest_in (parts (g.D.Disk.seen c.args.disk)) =
+    back ∙ played_rest c.in-Ok.head.items c.in-Ok-play.played.last (g.D.Disk.seen c.args.disk)
+    c.split_at.result.0.now c.in-Ok-play.played.end played front in
+    err_one c.settle-in-Ok-play.result _ _
+    (λ e first.
+    subst
+    (λ (cut : List ℕ).
+    IsSetAsideFirst (g.D.Disk.seen c.args.disk) (g.D.Disk.seen e.1) (aside_after cut (g.D.Disk.aside c.args.disk))
+    (g.D.Disk.aside e.1)) rest first)
+    c.settle-in-Ok-play.ensures.aside_first
 
 pub returns-in-Ok-play-clause-any_moment : goal.returns-in-Ok-play-clause-any_moment
 returns-in-Ok-play-clause-any_moment g c =
