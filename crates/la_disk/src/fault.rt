@@ -8,16 +8,25 @@ use std::fs::TryLockError;
 use std::io::ErrorKind;
 use thiserror::Error;
 
-/// Why a folder was not taken, or its journal not opened. Whichever it is, this process has no lock of it,
-/// and no byte that the journal had is gone; `lock` and an empty `journal` may have been made.
+/// Why a folder was not taken, or its journal not opened or made. Whichever it is, this process has no lock of it,
+/// and no byte that the journal had is gone; `lock` may have been made.
 #[derive(Clone, Copy, Debug, PartialEq, Eq, Error)]
 pub enum OpenFault {
     /// Another process has the folder.
     #[error("another process has the folder")]
     Locked,
 
+    /// There is no journal in the folder, which is not to be started from nothing: whatever else is there, it may be that
+    /// its disk is not mounted.
+    #[error("there is no journal")]
+    Missing,
+
+    /// There is a journal in the folder already, which is as it was.
+    #[error("there is a journal")]
+    There,
+
     /// The folder, or a file in it, can't be opened, for what the system says: `NotFound` of a folder that
-    /// is none. `IsADirectory`, `FilesystemLoop` and `Unsupported` come too where a folder, a link, or a
+    /// is none, `InvalidInput` of one without a name. `IsADirectory`, `FilesystemLoop` and `Unsupported` come too where a folder, a link, or a
     /// pipe, a socket or a device stands under the name of a file.
     #[error("not opened: {0}")]
     Unopened(ErrorKind),

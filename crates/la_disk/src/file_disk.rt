@@ -3,13 +3,31 @@ ghost use Rattle.std.specs.Prelude.{◌≡◌, ◌≢◌, IfOk, IfErr};
 ghost use Rattle.la_journal.specs.Held.{held_bytes, faults_of, aside_of, moment_of, may_leave_of, left_since_of, only_now_of, counts_now_of, stays_of};
 ghost use Rattle.la_disk.specs.declared.fault.OpenFault.TheVariants.{Locked};
 
-use crate::opening::{keep_access, make, open_or_make, path_of, refuse_other, remove_leftover};
+use crate::opening::{
+    keep_access, make, open_file, path_of, refuse_journal, refuse_other, remove_leftover,
+};
 use crate::{FolderLock, OpenFault};
 use la_journal::{Contents, Disk, DiskFault, Record};
 use std::alloc::Global;
 use std::fs::{self, OpenFile, OpenOptions};
 use std::io::{self, Read, Write};
 use std::rt::Files;
+
+// Puts the bytes on the disk under one name, and then under the other one, where nothing stands.
+fn put_first<R: Files>(
+    rt: &R,
+    folder: &str,
+    path: &str,
+    next: &str,
+    bytes: &[u8],
+) -> io::Result<()> {
+    remove_leftover(rt, next)?;
+    let mut file = make(rt, OpenOptions::new().write(true), next)?;
+    file.write_all(bytes)?;
+    file.sync_all()?;
+    fs::rename(rt, next, path)?;
+    fs::open(rt, folder)?.sync_all()
+}
 
 /// The journal of a folder. It holds none of the file in memory.
 ///
@@ -26,12 +44,12 @@ pub struct FileDisk<R: Files + Drop> {
 }
 
 impl<R: Files + Drop> FileDisk<R> {
-    /// Opens the journal of a folder that this process has, and makes one where there is none. What it read of it
-    /// comes beside it, for [`recover`](la_journal::recover): that need not be on the disk, where `recover` puts it.
+    /// Opens the journal of a folder that this process has, which [`create`](FileDisk::create) made once. What it read of
+    /// it comes beside it, for [`recover`](la_journal::recover): that need not be on the disk, where `recover` puts it.
     /// Linear in the journal, which is then in memory once.
     ///
-    /// `Unopened` comes where `journal` can't be opened or made, or it, `journal.new` or `journal.torn` is no file, and
-    /// `Unread` where a read fails. What an earlier process may have left is not known here, and no clause
+    /// `Missing` comes where there is no `journal`, and none is made. `Unopened` comes where it can't be opened, or it,
+    /// `journal.new` or `journal.torn` is no file, and `Unread` where a read fails. What an earlier process may have left is not known here, and no clause
     /// says it: that what was read is among that, and that until the first sync or replacement a crash
     /// leaves that or what was read, is the premise `IsStart` of whoever starts on it.
     pub fn open(rt: R, alloc: Global, lock: FolderLock) -> Result<(FileDisk<R>, Vec<u8>), OpenFault>
@@ -45,7 +63,7 @@ impl<R: Files + Drop> FileDisk<R> {
         refuse_other(&rt, torn.as_str())?;
         let mut options = OpenOptions::new();
         options.read(true).append(true);
-        let mut file = open_or_make(&rt, &mut options, path.as_str())?;
+        let mut file = open_file(&rt, &options, path.as_str())?;
         let mut found = Vec::new(alloc);
         if let Err(error) = file.read_to_end(&mut found) {
             return Err(OpenFault::of_reading(error.kind()));
@@ -61,6 +79,25 @@ impl<R: Files + Drop> FileDisk<R> {
             lock,
         };
         Ok((disk, found))
+    }
+
+    /// Makes the journal of a folder that this process has, once and for good: it has these bytes, as
+    /// [`new_journal`](la_journal::new_journal) gives them. A crash leaves none or the whole, since they are written and
+    /// synced under another name first. The folder is let go then.
+    ///
+    /// `There` comes where `journal` is, with whatever in it, which stays as it was; `Unopened` where what stands under
+    /// its name or that of `journal.new` is no file, or where a write, a sync or the renaming fails.
+    pub fn create(rt: R, alloc: Global, lock: FolderLock, bytes: &[u8]) -> Result<(), OpenFault>
+        ensures free { IfErr result (λ e. e ≢ Locked) }
+    {
+        let path = path_of(alloc, lock.folder(), "/journal")?;
+        let next = path_of(alloc, lock.folder(), "/journal.new")?;
+        refuse_journal(&rt, path.as_str())?;
+        refuse_other(&rt, next.as_str())?;
+        match put_first(&rt, lock.folder(), path.as_str(), next.as_str(), bytes) {
+            Ok(()) => Ok(()),
+            Err(error) => Err(OpenFault::of_opening(error.kind())),
+        }
     }
 
     // Writes bytes that are cut off the journal into a file of their own, in the place of what was cut off before.

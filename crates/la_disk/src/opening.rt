@@ -51,6 +51,38 @@ pub(crate) fn refuse_other<R: Files>(rt: &R, path: &str) -> Result<(), OpenFault
     }
 }
 
+// Refuses a name under which a file stands, or anything else.
+pub(crate) fn refuse_journal<R: Files>(rt: &R, path: &str) -> Result<(), OpenFault>
+    ensures free { IfErr result (λ e. e ≢ Locked) }
+    ensures unread { IfErr result (λ e. e ≢ Unread) }
+{
+    match fs::symlink_metadata(rt, path) {
+        Ok(found) => match obstacle(found.file_type()) {
+            None => Err(OpenFault::There),
+            Some(kind) => Err(OpenFault::Unopened(kind)),
+        },
+        Err(error) if error.kind() == ErrorKind::NotFound => Ok(()),
+        Err(error) => Err(OpenFault::of_opening(error.kind())),
+    }
+}
+
+// Opens a file that is there.
+pub(crate) fn open_file<R: Files>(
+    rt: &R,
+    options: &OpenOptions,
+    path: &str,
+) -> Result<R::File, OpenFault>
+    ensures free { IfErr result (λ e. e ≢ Locked) }
+    ensures unread { IfErr result (λ e. e ≢ Unread) }
+{
+    refuse_other(rt, path)?;
+    match options.open(rt, path) {
+        Ok(file) => Ok(file),
+        Err(error) if error.kind() == ErrorKind::NotFound => Err(OpenFault::Missing),
+        Err(error) => Err(OpenFault::of_opening(error.kind())),
+    }
+}
+
 // Makes a file where none is.
 pub(crate) fn make<R: Files>(rt: &R, options: &mut OpenOptions, path: &str) -> io::Result<R::File> {
     options.create_new(true).mode(PRIVATE).open(rt, path)

@@ -118,8 +118,7 @@ lines_more gs group are =
     ∙ ap (λ (l : List ℕ). ended (in_a_row gs) ++ ended_from l group) (joined_whole gs are)
 
 pub sound_is : (head file : List ℕ) (p : Parts) → parts file ≡ Some p → is_sound head file ≡ has_head head (Some p)
-sound_is head [] p read = absurd (none-some p read)
-sound_is head (b ∷ file) p read = ap (has_head head) read
+sound_is head file p read = ap (has_head head) read
 
 -- ## What is put behind it
 

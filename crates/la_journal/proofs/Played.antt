@@ -22,9 +22,6 @@ use Rattle.la_journal.proofs.FileParts.{no_parts, no_head, head_is}
 use Rattle.la_journal.proofs.Told.{heads_are_read}
 use Rattle.la_journal.proofs.Decided.{damage, no_damage}
 
-some_parts : (file : List ℕ) (p : Parts) → parts file ≡ Some p → file ≢ []
-some_parts file p is empty = none-some p (ap parts (sym empty) ∙ is)
-
 -- nothing is no damage
 pub none_damaged : IsGroupDamage [] → ⊥
 none_damaged (inl stands) = absurd stands
@@ -51,15 +48,14 @@ module _ {S C : Type 0} (head : S → List ℕ) (named_state : List ℕ → Opti
   abbrev said : Option Parts → Option S
   said p = lines_lead named_state named step start (journal (lines_in p))
 
-  by_head : (file : List ℕ) (o : Option Parts) → parts file ≡ o → file ≢ []
+  by_head : (file : List ℕ) (o : Option Parts) → parts file ≡ o
       → leads file ≡ (if has_head (head start) o then said o else None)
-  by_head [] o is some = absurd (some refl)
-  by_head (b ∷ file) o is some = ap (λ (p : Option Parts). if has_head (head start) p then said p else None) is
+  by_head file o is = ap (λ (p : Option Parts). if has_head (head start) p then said p else None) is
 
   module _ (file : List ℕ) (p : Parts) (is : parts file ≡ Some p) where
     by_parts : (b : Bool) → has_head (head start) (Some p) ≡ b → leads file ≡ (if b then said (Some p) else None)
     by_parts b has =
-        by_head file (Some p) is (some_parts file p is)
+        by_head file (Some p) is
         ∙ ap (λ (t : Bool). if t then said (Some p) else None) has
 
     pub sound_leads : p.text ≡ head start → (IsGroupDamage p.rest → ⊥) → leads file ≡ said (Some p)

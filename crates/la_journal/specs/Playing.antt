@@ -1,7 +1,7 @@
 -- What is played of a file, line by line.
-use Rattle.std.specs.Prelude.{◌≡◌, ◌⊎◌, ⊤, ℕ, ◌+◌, ◌-◌, ◌||◌, Bool, true, false, List, [], ◌∷◌, ◌++◌, Option, Some}
+use Rattle.std.specs.Prelude.{◌≡◌, ◌⊎◌, ⊤, ℕ, ◌+◌, ◌-◌, ◌||◌, Bool, true, false, List, [], ◌∷◌, Option, Some}
 use Rattle.std.specs.Prelude.{None, length, take}
-use Rattle.la_journal.specs.Records.{Parts, parts, ended, end_count, head_line, IsGroupDamage}
+use Rattle.la_journal.specs.Records.{Parts, parts, ended, end_count, IsGroupDamage}
 use Rattle.la_journal.specs.Journal.{journal, state_in}
 use Rattle.la_journal.specs.Machine.{plays_line, steps_from, lines_lead, state_after}
 use Rattle.la_journal.specs.Durable.{IsCauseOf}
@@ -72,10 +72,9 @@ aside_after (b ∷ cut) before = b ∷ cut
 abbrev pub IsSetAsideFirst : (before after : List ℕ) → (cut aside : List ℕ) → Type 0
 IsSetAsideFirst before after cut aside = (after ≡ before) ⊎ (aside ≡ cut)
 
--- what is left of a file: all but that, or a head with this text where the file has no byte
-abbrev pub recovered_file : (text file : List ℕ) → List ℕ
-recovered_file text [] = head_line text ++ 10 ∷ []
-recovered_file text (b ∷ file) = take (length (b ∷ file) - length (rest_in (parts (b ∷ file)))) (b ∷ file)
+-- what is left of a file: all but that
+abbrev pub recovered_file : List ℕ → List ℕ
+recovered_file file = take (length file - length (rest_in (parts file))) file
 
 -- a file is a head with this text and groups with nothing behind them, and ends in this digest
 pub record HasNothingBehind (text last file : List ℕ) : Type 0 where

@@ -1,17 +1,17 @@
 // A journal played from its first line on.
-ghost use Rattle.std.specs.Prelude.{◌≡◌, ◌≢◌, ◌++◌, ◌∷◌, ◌+◌, ◌<◌, ◌≤◌, ◌^◌, ◌||◌, [], false, Some, None, length, IfOk, IfErr, OnOk, IfSome};
+ghost use Rattle.std.specs.Prelude.{◌≡◌, ◌++◌, ◌∷◌, ◌+◌, ◌<◌, ◌≤◌, ◌^◌, ◌||◌, [], false, Some, None, length, IfOk, IfErr, OnOk, IfSome};
 ghost use Rattle.la_journal.specs.Commits.{groups, last_record};
 ghost use Rattle.la_journal.specs.Disk.{LeavesOnly, MayBeOr, Only};
 ghost use Rattle.la_journal.specs.Records.{parts, ended, end_count, head_line, link, record_line, behind};
 ghost use Rattle.la_journal.specs.Journal.{lines, journal, state_in, in_a_row};
 ghost use Rattle.la_journal.specs.Machine.{state_after, lines_lead};
-ghost use Rattle.la_journal.specs.Durable.{IsSettled, IsSameOr, IsUntouched, alike};
+ghost use Rattle.la_journal.specs.Durable.{IsSettled, IsSameOr, IsUntouched, EndsInGroups, alike};
 ghost use Rattle.la_journal.specs.Playing.{leads_more, are_some, rest_in, StopsAt, StopsFrom, StopsAmong, IsNotPlayed, IsPlayed, HasNothingBehind, recovered_file, aside_after, IsSetAsideFirst};
 ghost use Rattle.la_journal.specs.declared.recovery.Unplayed.TheVariants.{Disk as Failed};
 
 use crate::damage::is_damage;
 use crate::grouped::{Head, head_of, line_end, next_group};
-use crate::records::{DIGITS, digest, end_count, link, new_file};
+use crate::records::{DIGITS, end_count, link, new_file};
 use crate::{Disk, DiskFault, Durable, Machine};
 use std::alloc::{AllocError, Global};
 
@@ -49,7 +49,8 @@ pub enum Unplayed<R> {
 }
 
 /// Plays what was found on a disk, a journal that a crash may have left, on a machine as it was before the first
-/// call of all, and cuts what it left of a last group, which is set aside. No byte at all is a new journal. Where the
+/// call of all, and cuts what it left of a last group, which is set aside. No byte at all is no journal, `NoHead`: a new
+/// one is made by [`new_journal`]. Where the
 /// first line behind the head is a state's, the machine takes that. It may crash too. It writes the groups anew, so that
 /// what was played is on the disk: linear in the journal, whose bytes are let go. After a refusal the disk comes back.
 pub fn recover<M: Machine, D: Disk>(
@@ -69,7 +70,7 @@ pub fn recover<M: Machine, D: Disk>(
     ensures same { IfOk result (λ durable. lines (D.seen durable.disk) ≡ lines (D.seen disk)) }
     ensures cut { IfOk result (λ durable. durable.cut ≡ length (rest_in (parts (D.seen disk)))) }
     ensures written { IfOk result (λ durable. D.seen durable.disk
-        ≡ recovered_file (M.head (M.state start)) (D.seen disk)) }
+        ≡ recovered_file (D.seen disk)) }
     ensures aside { IfOk result (λ durable. D.aside durable.disk
         ≡ aside_after (rest_in (parts (D.seen disk))) (D.aside disk)) }
     ensures aside_first { IfErr result (λ e. IsSetAsideFirst (D.seen disk) (D.seen e.1)
@@ -90,13 +91,6 @@ pub fn recover<M: Machine, D: Disk>(
     let Ok(head) = machine.head(alloc) else {
         return Err((Unplayed::Memory, disk));
     };
-    if found.is_empty() {
-        let Ok(file) = new_file(alloc, &head) else {
-            return Err((Unplayed::Memory, disk));
-        };
-        let last = digest(&[], &head);
-        return settle(machine, disk, head, &file, &[], last);
-    }
     match play(alloc, &mut machine, &head, &found) {
         Ok(played) => {
             let (file, torn) = found.split_at(played.end);
@@ -107,9 +101,14 @@ pub fn recover<M: Machine, D: Disk>(
     }
 }
 
-/// The bytes of a new journal of a machine: its head alone, which [`recover`] plays as a journal of no call.
+/// The bytes of a new journal of a machine: its head alone, which [`recover`] plays as a journal of no call. They are to
+/// be put where no journal stands: a machine that was there before has one.
 pub fn new_journal<M: Machine>(alloc: Global, machine: &M) -> Result<Vec<u8>, AllocError>
-    ensures { IfOk result (λ file. file.items ≡ head_line (M.head (M.state machine.now)) ++ 10 ∷ []) }
+    ensures head { IfOk result (λ file. file.items ≡ head_line (M.head (M.state machine.now)) ++ 10 ∷ []) }
+    ensures leads { IfOk result (λ file. state_after M.head M.named_state M.named M.step (M.state machine.now) file.items
+        ≡ Some (M.state machine.now)) }
+    ensures lines { IfOk result (λ file. lines file.items ≡ []) }
+    ensures whole { IfOk result (λ file. EndsInGroups file.items) }
 {
     new_file(alloc, &machine.head(alloc)?)
 }
@@ -162,7 +161,7 @@ struct Played {
     last: [u8; DIGITS],
 }
 
-/// Plays the groups of a file that is not empty, under a machine's head.
+/// Plays the groups of a file, under a machine's head.
 fn play<M: Machine>(
     alloc: Global,
     machine: &mut M,
@@ -170,7 +169,6 @@ fn play<M: Machine>(
     file: &[u8],
 ) -> Result<Played, Unplayed<M::Refusal>>
     requires head { head.now ≡ M.head (M.state machine.old) }
-    requires some { file.now ≢ [] }
     ensures state { OnOk result (state_after M.head M.named_state M.named M.step (M.state machine.old) file.now
         ≡ Some (M.state machine.new)) }
     ensures played { IfOk result (λ played. IsPlayed head.now file.now played.end played.last) }

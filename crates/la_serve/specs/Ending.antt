@@ -21,6 +21,8 @@ node_status fault.Memory = 3
 node_status fault.ReadFault = 4
 node_status fault.WriteFault = 4
 node_status fault.BadConfig = 4
+node_status fault.NoJournal = 5
+node_status fault.JournalThere = 5
 node_status fault.Locked = 5
 node_status (fault.BadJournal line) = 5
 node_status (fault.OtherOptions option) = 5
@@ -32,6 +34,8 @@ end_name fault.ReadFault = codes "ReadFault"
 end_name fault.WriteFault = codes "WriteFault"
 end_name fault.Memory = codes "Memory"
 end_name fault.BadConfig = codes "BadConfig"
+end_name fault.NoJournal = codes "NoJournal"
+end_name fault.JournalThere = codes "JournalThere"
 end_name fault.Locked = codes "Locked"
 end_name (fault.BadJournal line) = codes "BadJournal"
 end_name (fault.OtherOptions option) = codes "OtherOptions"
@@ -46,8 +50,11 @@ option_name Votes = codes "votes"
 option_name Commits = codes "commits"
 option_name Cap = codes "cap"
 
--- what is told behind the name: from which line on a journal is bad, or which option is another one
+-- what is told behind the name: what to do where there is no journal, from which line on one is bad, or which option is
+-- another one
 abbrev pub end_detail : NodeFault → List ℕ
+end_detail fault.NoJournal =
+    codes ": nothing here: mount its disk; if it is lost, never run this replica again; a first start is 'lattice init'"
 end_detail (fault.BadJournal line) = codes ": line " ++ decimal line
 end_detail (fault.OtherOptions option) = codes ": " ++ option_name option
 end_detail (fault.StartFault found) = codes ": needs " ++ (decimal found ++ codes " bytes")

@@ -1,6 +1,7 @@
 pub mod Names
 pub mod Objects
 pub mod Options
+pub mod Making
 pub mod Faults
 pub mod Numbered
 pub mod Heard

@@ -158,8 +158,10 @@ IsServerStartRefusal f objects options disk final old new (fault.OtherOptions op
     × IsUnplayable options (f.seen disk) (fault.OtherOptions option)
 IsServerStartRefusal f objects options disk final old new (fault.StartFault found) =
     RunsNot f options disk final old new × (found ≡ length (f.seen disk))
--- its disk is open
+-- its disk is open, and its journal there
 IsServerStartRefusal f objects options disk final old new fault.Locked = ⊥
+IsServerStartRefusal f objects options disk final old new fault.NoJournal = ⊥
+IsServerStartRefusal f objects options disk final old new fault.JournalThere = ⊥
 IsServerStartRefusal f objects options disk final old new fault.ReadFault =
     RunsCut f objects options disk final old new fault.ReadFault
 IsServerStartRefusal f objects options disk final old new fault.WriteFault =

@@ -24,6 +24,14 @@ pub enum NodeFault {
     #[error("BadConfig")]
     BadConfig,
 
+    /// There is no journal in the folder: a node makes none.
+    #[error("NoJournal")]
+    NoJournal,
+
+    /// There is one where one was to be made.
+    #[error("JournalThere")]
+    JournalThere,
+
     /// Another process has the journal's folder.
     #[error("Locked")]
     Locked,

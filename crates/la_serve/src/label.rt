@@ -1,7 +1,7 @@
 // Who speaks, before each line that is told.
-ghost use Rattle.std.specs.Prelude.{◌≡◌, ◌++◌, OnOk};
+ghost use Rattle.std.specs.Prelude.{◌≡◌, ◌++◌, length, OnOk};
 ghost use Rattle.la_io.specs.Streams.{Writes};
-ghost use Rattle.la_serve.specs.Labels.{label_of};
+ghost use Rattle.la_serve.specs.Labels.{label_of, making_label, own_label};
 
 use arrayvec::{ArrayString, ArrayVec};
 use itoa::Buffer;
@@ -24,8 +24,25 @@ impl<E: Listener + Drop> Labelled<E> {
         ensures label { result.label.bytes ≡ label_of own }
         ensures listener { result.listener ≡ listener }
     {
+        Labelled::speaking("lattice node: ", own, listener)
+    }
+
+    /// The same, of what makes a node's folder.
+    pub fn making(own: Option<u8>, listener: E) -> Labelled<E>
+        ensures label { result.label.bytes ≡ making_label own }
+        ensures listener { result.listener ≡ listener }
+    {
+        Labelled::speaking("lattice init: ", own, listener)
+    }
+
+    // The listener with this before each line, and which replica it is, where that is known.
+    fn speaking(program: &str, own: Option<u8>, listener: E) -> Labelled<E>
+        requires { length program.now ≡ 14 }
+        ensures label { result.label.bytes ≡ program.now ++ own_label own }
+        ensures listener { result.listener ≡ listener }
+    {
         let mut label = ArrayString::new();
-        label.push_str("lattice node: ");
+        label.push_str(program);
         if let Some(own) = own {
             label.push_str("r");
             label.push_str(Buffer::new().format(own));

@@ -66,6 +66,8 @@ pub fn end_name(fault: NodeFault) -> &'static str
         NodeFault::WriteFault => "WriteFault",
         NodeFault::Memory => "Memory",
         NodeFault::BadConfig => "BadConfig",
+        NodeFault::NoJournal => "NoJournal",
+        NodeFault::JournalThere => "JournalThere",
         NodeFault::Locked => "Locked",
         NodeFault::BadJournal(_) => "BadJournal",
         NodeFault::OtherOptions(_) => "OtherOptions",

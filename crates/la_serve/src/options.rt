@@ -49,7 +49,7 @@ fn number<'a>(alloc: Global, name: &'a str, parser: ValueParser<'a>, help: &'a s
         .help(help)
 }
 
-fn with_own<'a>(alloc: Global, command: Command<'a>) -> Result<Command<'a>, AllocError>
+pub(crate) fn with_own<'a>(alloc: Global, command: Command<'a>) -> Result<Command<'a>, AllocError>
     ensures app { IfOk result (λ made. app_of made ≡ with_rule (app_of command.entry) own_rule) }
     ensures local { (fields_of command.entry).has_globals ≡ false
         → IfOk result (λ made. (fields_of made).has_globals ≡ false) }
@@ -59,7 +59,7 @@ fn with_own<'a>(alloc: Global, command: Command<'a>) -> Result<Command<'a>, Allo
     command.arg(own.required(true))
 }
 
-fn with_votes<'a>(alloc: Global, command: Command<'a>) -> Result<Command<'a>, AllocError>
+pub(crate) fn with_votes<'a>(alloc: Global, command: Command<'a>) -> Result<Command<'a>, AllocError>
     ensures app { IfOk result (λ made. app_of made ≡ with_rule (app_of command.entry) votes_rule) }
     ensures local { (fields_of command.entry).has_globals ≡ false
         → IfOk result (λ made. (fields_of made).has_globals ≡ false) }
@@ -127,7 +127,7 @@ fn node_command<'a>(alloc: Global) -> Result<Command<'a>, AllocError>
 }
 
 // The program's command before it has a subcommand.
-fn alone<'a>(alloc: Global) -> Command<'a>
+pub(crate) fn alone<'a>(alloc: Global) -> Command<'a>
     ensures { app_of result ≡ lattice_alone }
 {
     Command::new(alloc, "lattice")
@@ -143,7 +143,7 @@ fn program<'a>(alloc: Global) -> Result<Command<'a>, AllocError>
 }
 
 // The votes that were given, where they are those of a group; one for each replica, where none were.
-fn votes_in(given: &ArgMatches<'_>, replicas: u8) -> Option<Votes>
+pub(crate) fn votes_in(given: &ArgMatches<'_>, replicas: u8) -> Option<Votes>
     requires some { 1 ≤ replicas }
     requires few { replicas ≤ 8 }
     ensures { IsVotes (many_of (codes "votes") (rows_of (found_of given.now))) replicas result }

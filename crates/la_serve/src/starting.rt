@@ -28,8 +28,12 @@ use la_wire::Tally;
 use std::alloc::{AllocError, Global};
 use std::io::{ErrorKind, Write};
 
-// The longest line is that of a start's fault.
-type Line = ArrayString<47>;
+// What is told where a folder has no journal.
+const NOTHING_HERE: &str =
+    ": nothing here: mount its disk; if it is lost, never run this replica again; a first start is 'lattice init'";
+
+// The longest line is that of a folder without a journal.
+type Line = ArrayString<128>;
 
 // The exit status after a fault.
 fn status_of(fault: NodeFault) -> u8
@@ -38,7 +42,9 @@ fn status_of(fault: NodeFault) -> u8
     match fault {
         NodeFault::Memory => 3,
         NodeFault::ReadFault | NodeFault::WriteFault | NodeFault::BadConfig => 4,
-        NodeFault::Locked
+        NodeFault::NoJournal
+        | NodeFault::JournalThere
+        | NodeFault::Locked
         | NodeFault::BadJournal(_)
         | NodeFault::OtherOptions(_)
         | NodeFault::DiskFault
@@ -101,11 +107,12 @@ fn end_line(fault: NodeFault) -> Line
 }
 
 // What is told behind a fault's name.
-fn end_detail(fault: NodeFault) -> ArrayString<34>
+fn end_detail(fault: NodeFault) -> ArrayString<115>
     ensures { result.bytes ≡ end_detail fault }
 {
     let mut detail = ArrayString::new();
     match fault {
+        NodeFault::NoJournal => detail.push_str(NOTHING_HERE),
         NodeFault::BadJournal(line) => {
             detail.push_str(": line ");
             detail.push_str(Buffer::new().format(line));

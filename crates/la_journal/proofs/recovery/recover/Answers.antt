@@ -1,140 +1,13 @@
-use Rattle.std.proofs.Common.{◌≡◌, arith, [], ◌∷◌, ◌++◌, List, ℕ, Some, take, drop, sym, ◌∙◌, ap, subst, rules}
-use Rattle.std.specs.Prelude.{vec_len}
-use Rattle.la_journal.specs.Lines.{IsClean}
-use Rattle.la_journal.specs.Records.{parts, head_line, digest}
+use Rattle.std.proofs.Common.{◌≡◌, List, ℕ, Some, take, drop, sym, ◌∙◌, ap, subst, rules}
+use Rattle.la_journal.specs.Records.{parts}
 use Rattle.la_journal.specs.Journal.{lines}
 use Rattle.la_journal.specs.Machine.{state_after}
 use Rattle.la_journal.specs.Playing.{IsPlayed, aside_after, IsSetAsideFirst, rest_in}
-use Rattle.la_journal.proofs.Played.{new_leads}
-use Rattle.la_journal.proofs.Recovering.{ok_both, ok_one, ok_three, err_one, new_whole, new_lines, played_whole, played_rest, played_lines, played_leads, is_settled, leaves_same, nothing}
+use Rattle.la_journal.proofs.Recovering.{ok_both, ok_one, ok_three, err_one, played_whole, played_rest, played_lines, played_leads, is_settled, leaves_same}
 use Rattle.la_journal.proofs.recovery.recover.Goals as goal
 
 pub settle-requires : goal.settle-requires
 settle-requires g c =
-    let is : c.in-Ok.head.items ≡ g.M.Machine.head (g.M.Machine.state c.args.start) = c.in-Ok.ensures in
-    let clean : IsClean c.in-Ok.head.items = subst IsClean (sym is) (g.met.M.Machine.clean_head _) in
-    let last : c.digest-last.result ≡ digest c.in-Ok.head.items = search rules in
-    let put : c.deref-then-is_empty-2.result.now ≡ head_line c.in-Ok.head.items ++ 10 ∷ [] = search rules in
-    new_whole c.in-Ok.head.items c.digest-last.result c.deref-then-is_empty-2.result.now clean last put
-
-pub returns-then-is_empty-clause-leads : goal.returns-then-is_empty-clause-leads
-returns-then-is_empty-clause-leads g c =
-    let text : c.in-Ok.head.items ≡ g.M.Machine.head (g.M.Machine.state c.args.start) = c.in-Ok.ensures in
-    let clean : IsClean (g.M.Machine.head (g.M.Machine.state c.args.start)) = g.met.M.Machine.clean_head _ in
-    let empty : g.D.Disk.seen c.args.disk ≡ [] =
-    c.requires
-    ∙ nothing c.args.found.items (vec_len c.args.found) (omega arith) (sym c.is_empty.ensures ∙ c.if-is_empty.true)
-    in
-    let put : c.deref-then-is_empty-2.result.now ≡ head_line c.in-Ok.head.items ++ 10 ∷ [] = search rules in
-    let file : c.deref-then-is_empty-2.result.now
-    ≡ head_line (g.M.Machine.head (g.M.Machine.state c.args.start)) ++ 10 ∷ [] =
-    put ∙ ap (λ (t : List ℕ). head_line t ++ 10 ∷ []) text in
-    let leads : state_after g.M.Machine.head g.M.Machine.named_state g.M.Machine.named g.M.Machine.step
-    (g.M.Machine.state c.args.start) c.deref-then-is_empty-2.result.now
-    ≡ Some (g.M.Machine.state c.args.start) =
-    ap (state_after g.M.Machine.head g.M.Machine.named_state g.M.Machine.named g.M.Machine.step
-    (g.M.Machine.state c.args.start)) file
-    ∙ new_leads g.M.Machine.head g.M.Machine.named_state g.M.Machine.named g.M.Machine.step
-    (g.M.Machine.state c.args.start) clean in
-    ok_both c.settle.result _ _ _
-    (λ d made written.
-    ap (state_after g.M.Machine.head g.M.Machine.named_state g.M.Machine.named g.M.Machine.step
-    (g.M.Machine.state c.args.start)) written ∙ leads ∙ ap (λ m. Some (g.M.Machine.state m)) (sym made.0))
-    c.settle.ensures.made c.settle.ensures.written
-
-pub returns-then-is_empty-clause-settled : goal.returns-then-is_empty-clause-settled
-returns-then-is_empty-clause-settled g c =
-    let text : c.in-Ok.head.items ≡ g.M.Machine.head (g.M.Machine.state c.args.start) = c.in-Ok.ensures in
-    let clean : IsClean (g.M.Machine.head (g.M.Machine.state c.args.start)) = g.met.M.Machine.clean_head _ in
-    let empty : g.D.Disk.seen c.args.disk ≡ [] =
-    c.requires
-    ∙ nothing c.args.found.items (vec_len c.args.found) (omega arith) (sym c.is_empty.ensures ∙ c.if-is_empty.true)
-    in
-    let put : c.deref-then-is_empty-2.result.now ≡ head_line c.in-Ok.head.items ++ 10 ∷ [] = search rules in
-    let file : c.deref-then-is_empty-2.result.now
-    ≡ head_line (g.M.Machine.head (g.M.Machine.state c.args.start)) ++ 10 ∷ [] =
-    put ∙ ap (λ (t : List ℕ). head_line t ++ 10 ∷ []) text in
-    let last : c.digest-last.result ≡ digest (g.M.Machine.head (g.M.Machine.state c.args.start)) = search rules in
-    let whole = new_whole (g.M.Machine.head (g.M.Machine.state c.args.start)) c.digest-last.result
-    c.deref-then-is_empty-2.result.now clean last file in
-    ok_three c.settle.result _ _ _ _
-    (λ d made written stored.
-    (made.1, is_settled g.D.Disk.seen g.D.Disk.may_leave _ _ _ d.disk whole written stored))
-    c.settle.ensures.made c.settle.ensures.written c.settle.ensures.stored
-
-pub returns-then-is_empty-clause-same : goal.returns-then-is_empty-clause-same
-returns-then-is_empty-clause-same g c =
-    let text : c.in-Ok.head.items ≡ g.M.Machine.head (g.M.Machine.state c.args.start) = c.in-Ok.ensures in
-    let clean : IsClean (g.M.Machine.head (g.M.Machine.state c.args.start)) = g.met.M.Machine.clean_head _ in
-    let empty : g.D.Disk.seen c.args.disk ≡ [] =
-    c.requires
-    ∙ nothing c.args.found.items (vec_len c.args.found) (omega arith) (sym c.is_empty.ensures ∙ c.if-is_empty.true)
-    in
-    let put : c.deref-then-is_empty-2.result.now ≡ head_line c.in-Ok.head.items ++ 10 ∷ [] = search rules in
-    let file : c.deref-then-is_empty-2.result.now
-    ≡ head_line (g.M.Machine.head (g.M.Machine.state c.args.start)) ++ 10 ∷ [] =
-    put ∙ ap (λ (t : List ℕ). head_line t ++ 10 ∷ []) text in
-    ok_one c.settle.result _ _
-    (λ d written. ap lines written ∙ new_lines _ _ clean file ∙ ap lines (sym empty)) c.settle.ensures.written
-
-pub returns-then-is_empty-clause-any_moment : goal.returns-then-is_empty-clause-any_moment
-returns-then-is_empty-clause-any_moment g c =
-    let text : c.in-Ok.head.items ≡ g.M.Machine.head (g.M.Machine.state c.args.start) = c.in-Ok.ensures in
-    let clean : IsClean (g.M.Machine.head (g.M.Machine.state c.args.start)) = g.met.M.Machine.clean_head _ in
-    let empty : g.D.Disk.seen c.args.disk ≡ [] =
-    c.requires
-    ∙ nothing c.args.found.items (vec_len c.args.found) (omega arith) (sym c.is_empty.ensures ∙ c.if-is_empty.true)
-    in
-    let put : c.deref-then-is_empty-2.result.now ≡ head_line c.in-Ok.head.items ++ 10 ∷ [] = search rules in
-    let file : c.deref-then-is_empty-2.result.now
-    ≡ head_line (g.M.Machine.head (g.M.Machine.state c.args.start)) ++ 10 ∷ [] =
-    put ∙ ap (λ (t : List ℕ). head_line t ++ 10 ∷ []) text in
-    let same : state_after g.M.Machine.head g.M.Machine.named_state g.M.Machine.named g.M.Machine.step
-    (g.M.Machine.state c.args.start) c.deref-then-is_empty-2.result.now
-    ≡ state_after g.M.Machine.head g.M.Machine.named_state g.M.Machine.named g.M.Machine.step
-    (g.M.Machine.state c.args.start) (g.D.Disk.seen c.args.disk) =
-    ap (state_after g.M.Machine.head g.M.Machine.named_state g.M.Machine.named g.M.Machine.step
-    (g.M.Machine.state c.args.start)) file
-    ∙ new_leads g.M.Machine.head g.M.Machine.named_state g.M.Machine.named g.M.Machine.step
-    (g.M.Machine.state c.args.start) clean
-    ∙ ap (state_after g.M.Machine.head g.M.Machine.named_state g.M.Machine.named g.M.Machine.step
-    (g.M.Machine.state c.args.start)) (sym empty) in
-    ok_one c.settle.result _ _
-    (λ d leaves.
-    leaves_same g.D.Disk.moment g.D.Disk.left_since c.args.disk d.disk (g.D.Disk.may_leave c.args.disk)
-    (state_after g.M.Machine.head g.M.Machine.named_state g.M.Machine.named g.M.Machine.step
-    (g.M.Machine.state c.args.start)) (g.D.Disk.seen c.args.disk) _ same leaves) c.settle.ensures.any_moment
-
-pub returns-then-is_empty-clause-any_moment_err : goal.returns-then-is_empty-clause-any_moment_err
-returns-then-is_empty-clause-any_moment_err g c =
-    let text : c.in-Ok.head.items ≡ g.M.Machine.head (g.M.Machine.state c.args.start) = c.in-Ok.ensures in
-    let clean : IsClean (g.M.Machine.head (g.M.Machine.state c.args.start)) = g.met.M.Machine.clean_head _ in
-    let empty : g.D.Disk.seen c.args.disk ≡ [] =
-    c.requires
-    ∙ nothing c.args.found.items (vec_len c.args.found) (omega arith) (sym c.is_empty.ensures ∙ c.if-is_empty.true)
-    in
-    let put : c.deref-then-is_empty-2.result.now ≡ head_line c.in-Ok.head.items ++ 10 ∷ [] = search rules in
-    let file : c.deref-then-is_empty-2.result.now
-    ≡ head_line (g.M.Machine.head (g.M.Machine.state c.args.start)) ++ 10 ∷ [] =
-    put ∙ ap (λ (t : List ℕ). head_line t ++ 10 ∷ []) text in
-    let same : state_after g.M.Machine.head g.M.Machine.named_state g.M.Machine.named g.M.Machine.step
-    (g.M.Machine.state c.args.start) c.deref-then-is_empty-2.result.now
-    ≡ state_after g.M.Machine.head g.M.Machine.named_state g.M.Machine.named g.M.Machine.step
-    (g.M.Machine.state c.args.start) (g.D.Disk.seen c.args.disk) =
-    ap (state_after g.M.Machine.head g.M.Machine.named_state g.M.Machine.named g.M.Machine.step
-    (g.M.Machine.state c.args.start)) file
-    ∙ new_leads g.M.Machine.head g.M.Machine.named_state g.M.Machine.named g.M.Machine.step
-    (g.M.Machine.state c.args.start) clean
-    ∙ ap (state_after g.M.Machine.head g.M.Machine.named_state g.M.Machine.named g.M.Machine.step
-    (g.M.Machine.state c.args.start)) (sym empty) in
-    err_one c.settle.result _ _
-    (λ d leaves.
-    leaves_same g.D.Disk.moment g.D.Disk.left_since c.args.disk d.1 (g.D.Disk.may_leave c.args.disk)
-    (state_after g.M.Machine.head g.M.Machine.named_state g.M.Machine.named g.M.Machine.step
-    (g.M.Machine.state c.args.start)) (g.D.Disk.seen c.args.disk) _ same leaves) c.settle.ensures.any_moment_err
-
-pub settle-requires-in-Ok-play : goal.settle-requires-in-Ok-play
-settle-requires-in-Ok-play g c =
     let front : c.split_at.result.0.now ≡ take c.in-Ok-play.played.end (g.D.Disk.seen c.args.disk) = search rules in
     let played : IsPlayed c.in-Ok.head.items (g.D.Disk.seen c.args.disk) c.in-Ok-play.played.end
     c.in-Ok-play.played.last = search rules in
@@ -156,11 +29,11 @@ returns-in-Ok-play-clause-leads g c =
     let led : state_after g.M.Machine.head g.M.Machine.named_state g.M.Machine.named g.M.Machine.step
     (g.M.Machine.state c.args.start) (g.D.Disk.seen c.args.disk)
     ≡ Some (g.M.Machine.state c.play.new.machine) = search rules in
-    ok_both c.settle-in-Ok-play.result _ _ _
+    ok_both c.settle.result _ _ _
     (λ d made written.
     ap (state_after g.M.Machine.head g.M.Machine.named_state g.M.Machine.named g.M.Machine.step
     (g.M.Machine.state c.args.start)) written ∙ same ∙ led ∙ ap (λ m. Some (g.M.Machine.state m)) (sym made.0))
-    c.settle-in-Ok-play.ensures.made c.settle-in-Ok-play.ensures.written
+    c.settle.ensures.made c.settle.ensures.written
 
 pub returns-in-Ok-play-clause-settled : goal.returns-in-Ok-play-clause-settled
 returns-in-Ok-play-clause-settled g c =
@@ -170,22 +43,22 @@ returns-in-Ok-play-clause-settled g c =
     let whole =
     played_whole c.in-Ok.head.items c.in-Ok-play.played.last (g.D.Disk.seen c.args.disk) c.split_at.result.0.now
     c.in-Ok-play.played.end played front in
-    ok_three c.settle-in-Ok-play.result _ _ _ _
+    ok_three c.settle.result _ _ _ _
     (λ d made written stored.
     (made.1, is_settled g.D.Disk.seen g.D.Disk.may_leave _ _ _ d.disk whole written stored))
-    c.settle-in-Ok-play.ensures.made c.settle-in-Ok-play.ensures.written c.settle-in-Ok-play.ensures.stored
+    c.settle.ensures.made c.settle.ensures.written c.settle.ensures.stored
 
 pub returns-in-Ok-play-clause-same : goal.returns-in-Ok-play-clause-same
 returns-in-Ok-play-clause-same g c =
     let front : c.split_at.result.0.now ≡ take c.in-Ok-play.played.end (g.D.Disk.seen c.args.disk) = search rules in
     let played : IsPlayed c.in-Ok.head.items (g.D.Disk.seen c.args.disk) c.in-Ok-play.played.end
     c.in-Ok-play.played.last = search rules in
-    ok_one c.settle-in-Ok-play.result _ _
+    ok_one c.settle.result _ _
     (λ d written.
     ap lines written
     ∙ played_lines c.in-Ok.head.items c.in-Ok-play.played.last (g.D.Disk.seen c.args.disk) c.split_at.result.0.now
     c.in-Ok-play.played.end played front)
-    c.settle-in-Ok-play.ensures.written
+    c.settle.ensures.written
 
 pub returns-in-Ok-play-clause-aside : goal.returns-in-Ok-play-clause-aside
 returns-in-Ok-play-clause-aside g c =
@@ -196,9 +69,9 @@ returns-in-Ok-play-clause-aside g c =
     let rest : c.split_at.result.1.now ≡ rest_in (parts (g.D.Disk.seen c.args.disk)) =
     back ∙ played_rest c.in-Ok.head.items c.in-Ok-play.played.last (g.D.Disk.seen c.args.disk)
     c.split_at.result.0.now c.in-Ok-play.played.end played front in
-    ok_one c.settle-in-Ok-play.result _ _
+    ok_one c.settle.result _ _
     (λ d aside. aside ∙ ap (λ (cut : List ℕ). aside_after cut (g.D.Disk.aside c.args.disk)) rest)
-    c.settle-in-Ok-play.ensures.aside
+    c.settle.ensures.aside
 
 pub returns-in-Ok-play-clause-aside_first : goal.returns-in-Ok-play-clause-aside_first
 returns-in-Ok-play-clause-aside_first g c =
@@ -209,13 +82,13 @@ returns-in-Ok-play-clause-aside_first g c =
     let rest : c.split_at.result.1.now ≡ rest_in (parts (g.D.Disk.seen c.args.disk)) =
     back ∙ played_rest c.in-Ok.head.items c.in-Ok-play.played.last (g.D.Disk.seen c.args.disk)
     c.split_at.result.0.now c.in-Ok-play.played.end played front in
-    err_one c.settle-in-Ok-play.result _ _
+    err_one c.settle.result _ _
     (λ e first.
     subst
     (λ (cut : List ℕ).
     IsSetAsideFirst (g.D.Disk.seen c.args.disk) (g.D.Disk.seen e.1) (aside_after cut (g.D.Disk.aside c.args.disk))
     (g.D.Disk.aside e.1)) rest first)
-    c.settle-in-Ok-play.ensures.aside_first
+    c.settle.ensures.aside_first
 
 pub returns-in-Ok-play-clause-any_moment : goal.returns-in-Ok-play-clause-any_moment
 returns-in-Ok-play-clause-any_moment g c =
@@ -229,11 +102,11 @@ returns-in-Ok-play-clause-any_moment g c =
     played_leads c.in-Ok.head.items c.in-Ok-play.played.last (g.D.Disk.seen c.args.disk) c.split_at.result.0.now
     c.in-Ok-play.played.end played front g.M.Machine.head g.M.Machine.named_state g.M.Machine.named g.M.Machine.step
     (g.M.Machine.state c.args.start) c.in-Ok.ensures in
-    ok_one c.settle-in-Ok-play.result _ _
+    ok_one c.settle.result _ _
     (λ d leaves.
     leaves_same g.D.Disk.moment g.D.Disk.left_since c.args.disk d.disk (g.D.Disk.may_leave c.args.disk)
     (state_after g.M.Machine.head g.M.Machine.named_state g.M.Machine.named g.M.Machine.step
-    (g.M.Machine.state c.args.start)) (g.D.Disk.seen c.args.disk) _ same leaves) c.settle-in-Ok-play.ensures.any_moment
+    (g.M.Machine.state c.args.start)) (g.D.Disk.seen c.args.disk) _ same leaves) c.settle.ensures.any_moment
 
 pub returns-in-Ok-play-clause-any_moment_err : goal.returns-in-Ok-play-clause-any_moment_err
 returns-in-Ok-play-clause-any_moment_err g c =
@@ -247,9 +120,9 @@ returns-in-Ok-play-clause-any_moment_err g c =
     played_leads c.in-Ok.head.items c.in-Ok-play.played.last (g.D.Disk.seen c.args.disk) c.split_at.result.0.now
     c.in-Ok-play.played.end played front g.M.Machine.head g.M.Machine.named_state g.M.Machine.named g.M.Machine.step
     (g.M.Machine.state c.args.start) c.in-Ok.ensures in
-    err_one c.settle-in-Ok-play.result _ _
+    err_one c.settle.result _ _
     (λ d leaves.
     leaves_same g.D.Disk.moment g.D.Disk.left_since c.args.disk d.1 (g.D.Disk.may_leave c.args.disk)
     (state_after g.M.Machine.head g.M.Machine.named_state g.M.Machine.named g.M.Machine.step
     (g.M.Machine.state c.args.start)) (g.D.Disk.seen c.args.disk) _ same leaves)
-    c.settle-in-Ok-play.ensures.any_moment_err
+    c.settle.ensures.any_moment_err
