@@ -15,7 +15,7 @@ first_are handed more =
     take-append-le (length handed) handed more (omega arith) ∙ take_all (length handed) handed (omega arith)
 
 pub crashes_keep : UnreadBytesChangeNothing node_head named_node call_line step → CrashesKeepWhatWasTold
-crashes_keep unread j kept left leads ends (torn, inl all, is) =
+crashes_keep unread j kept left leads (torn, inl all, is) =
     let calls = leads.handed ++ leads.more in (
       leads.told,
       (
@@ -30,7 +30,7 @@ crashes_keep unread j kept left leads ends (torn, inl all, is) =
         ),
       ),
     )
-crashes_keep unread j kept left leads ends (torn, inr none, is) =
+crashes_keep unread j kept left leads (torn, inr none, is) =
     let calls = leads.handed ++ leads.more in (
       leads.told,
       (
@@ -40,7 +40,7 @@ crashes_keep unread j kept left leads ends (torn, inr none, is) =
         (
           0,
           omega arith,
-          ap (leads_from j.start) is ∙ unread j.start j.disk torn ends none ∙ leads.on_disk,
+          ap (leads_from j.start) is ∙ unread j.start j.disk torn leads.ends none ∙ leads.on_disk,
         ),
       ),
     )
