@@ -58,7 +58,7 @@ leads_synced j kept leads =
       handed = [];
       more = leads.more;
       on_disk = leads.with_given ∙ mid.1;
-      ends = leads.whole;
+      ends = ap rest_in leads.whole.read ∙ leads.whole.whole;
       with_given = ap (leads_from j.start) (append-nil (j.disk ++ j.given)) ∙ leads.with_given ∙ mid.1;
       whole = subst EndsInGroups (sym (append-nil (j.disk ++ j.given))) leads.whole;
       staged = leads.staged;
@@ -265,7 +265,7 @@ module _ (config : Config) (own : ℕ) (held text : List ℕ) (kept : ReplicaSta
           handed = [];
           more = [];
           on_disk = ap (leads_from start) disk ∙ leads;
-          ends = subst EndsInGroups (sym disk) ends;
+          ends = ap (λ f. rest_in (parts f)) disk ∙ ap rest_in ends.read ∙ ends.whole;
           with_given = ap (leads_from start) whole ∙ leads;
           whole = subst EndsInGroups (sym whole) ends;
           staged = none;

@@ -55,7 +55,8 @@ pub record LeadsTo (j : JournalState) (kept : ReplicaState) : Type 0 where
   pub handed : List CallLine
   pub more : List CallLine
   pub on_disk : leads_from j.start j.disk ≡ Some told
-  pub ends : EndsInGroups j.disk
+  -- and nothing stands behind its groups
+  pub ends : rest_in (parts j.disk) ≡ []
   pub with_given : leads_from j.start (j.disk ++ j.given) ≡ steps step handed told
   -- what was handed out ends in groups too
   pub whole : EndsInGroups (j.disk ++ j.given)

@@ -21,7 +21,7 @@ ghost use Rattle.la_proposer.specs.Inputs.{all_submitted};
 ghost use Rattle.la_embed.specs.Journals.{JournalState, AllIsKept, MakesRecord, IsJournaled, IsRecovered, IsNotRecovered};
 ghost use Rattle.la_embed.specs.Journals.{IsRefusedOver, record_in, journal_synced};
 ghost use Rattle.la_embed.specs.Keepers.{state_kept, journal_in, is_own_call};
-ghost use Rattle.la_embed.specs.Numbers.{SubmitsUnder, IsNumberRefusal, RefusesToSubmit, RefusesToPropose};
+ghost use Rattle.la_embed.specs.Numbers.{SubmitsUnder, IsNumberRefusal, IsNotSubmitted, RefusesToSubmit, RefusesToPropose, submitted_as};
 ghost use Rattle.la_embed.specs.Learnt.{IsNextLearnt, handed_noting};
 ghost use Rattle.la_embed.specs.Hosts.{host_of, host_over, shelf_now, submitted_by, with_handed, with_journal, with_mail};
 ghost use Rattle.la_embed.specs.Hosts.{TakesCall, IsSent, IsPosted, IsToldBack, IsPostedAgain, IsMended, IsUnseen};
@@ -340,14 +340,24 @@ impl<B: Replicated> Host<B> {
         ensures err { OnErr result (self.new ≡ self.old) }
     {
         if number.checked_sub(1) == Some(self.count()) {
-            let _number = self.submit(object, op)?;
-            return Ok(());
+            return match self.submit(object, op) {
+                Ok(_number) => Ok(()),
+                Err(refused) => Err(NumberError::Node(refused)),
+            };
         }
+        self.find_submitted(number, object, &op)
+    }
+
+    // Whether this operation was submitted under the number.
+    fn find_submitted(&self, number: u32, object: u16, op: &Op) -> Result<(), NumberError>
+        ensures ok { OnOk result (submitted_as self.now.kept number ≡ Some (op_on object op.now)) }
+        ensures error { IfErr result (IsNotSubmitted self.now.kept number (op_on object op.now)) }
+    {
         let Some(first) = self.keeper.node().replica().instances().first() else {
             return Err(NumberError::Gap);
         };
         match submitted_under(&first.proposer, number) {
-            Some(update) if does(update, object, &op) => Ok(()),
+            Some(update) if does(update, object, op) => Ok(()),
             Some(_) => Err(NumberError::Stale),
             None => Err(NumberError::Gap),
         }
