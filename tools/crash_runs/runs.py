@@ -255,12 +255,14 @@ class Run:
     def flip(self, node: Node) -> None:
         """Starts a node that is down over a journal a bit of which has flipped, and flips it back."""
         journal, whole = node.disk.journal, node.disk.found()
-        journal.write_bytes(wrong := flipped(self.draw, whole))
-        came = node.over(f"submit {node.own} 1 inc 9\n".encode())
-        kept = "kept" if journal.read_bytes() == wrong else "changed"
-        told = f"status {came.returncode}, printed {came.stdout}, said {came.stderr}, {kept}"
-        self.note(("flipped", node.own, told))
-        journal.write_bytes(whole)
+        # Where syncs do nothing a loss of power may leave no byte of it.
+        if whole:
+            journal.write_bytes(wrong := flipped(self.draw, whole))
+            came = node.over(f"submit {node.own} 1 inc 9\n".encode())
+            kept = "kept" if journal.read_bytes() == wrong else "changed"
+            told = f"status {came.returncode}, printed {came.stdout}, said {came.stderr}, {kept}"
+            self.note(("flipped", node.own, told))
+            journal.write_bytes(whole)
 
     def tick(self) -> None:
         """Nothing moves: timers run out, and nodes that are down may come back. One that stands still does neither."""
