@@ -12,6 +12,10 @@ from collections.abc import Callable, Sequence
 from dataclasses import dataclass
 from pathlib import Path
 
+sys.path.append(str(Path(__file__).resolve().parent.parent / "tools"))
+
+from folders import Replica
+
 MEBIBYTE = 1 << 20
 # A pipe takes no more at once.
 PIPE = 1 << 16
@@ -35,9 +39,7 @@ class Node:
 
     def __init__(self, program: Path, folder: Path, count: int, own: int, *more: str) -> None:
         self.own, self.folder = own, folder / f"journal{own}"
-        self.folder.mkdir()
-        self.words: list[str | Path] = [program, "node", "--replicas", str(count), "--own", str(own)]
-        self.words += ["--journal", self.folder, *more]
+        self.words = Replica(program, self.folder, count, own).make().node_words(*more)
         # How many updates its view has, and how many of its own are in the last set that it learnt.
         self.view = self.learnt = 0
         self.status: list[str] = []

@@ -3,6 +3,7 @@
 // it is, is that of a first update. So what it takes is the broker's, the pipes' and the disk's.
 //
 // usage: stub node --replicas 3 --own R --journal FOLDER
+//        stub init .., which makes nothing: the file is made by the first start
 #include <fcntl.h>
 #include <stdio.h>
 #include <stdlib.h>
@@ -76,6 +77,8 @@ int main(int argc, char **argv) {
     char *line = NULL, name[4096];
     size_t room = 0;
     ssize_t size;
+    if (argc > 1 && !strcmp(argv[1], "init"))
+        return 0;
     if (argc != 8)
         return 2;
     own = atoi(argv[5]);

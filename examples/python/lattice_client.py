@@ -18,15 +18,25 @@ class Ended(Exception):
     """The node has ended, with this status, and has done the call or not: `start` it, and make the same call again."""
 
 
+# What all nodes of the group have alike.
+GROUP = ["--replicas", "3", "--commits", "1"]
+
+
+def make_folder(program: str, own: int, folder: Path) -> None:
+    """Makes a replica's folder and its journal: once, before its first start, and never again for this replica, also
+    where the folder is lost. It would give its updates ids that others know already."""
+    folder.mkdir(exist_ok=True)
+    subprocess.run([program, "init", str(folder), "--own", str(own), *GROUP], check=True)
+
+
 class Node:
     """A replica as a process, and its client. No other may submit there, since it numbers what it submits."""
 
     def __init__(self, nodes: list["Node"], program: str, own: int, folder: Path) -> None:
-        options = ["--replicas", "3", "--commits", "1", "--tick", "1", "--own", str(own), "--journal", str(folder)]
+        options = ["--own", str(own), *GROUP, "--journal", str(folder), "--tick", "1"]
         self.nodes, self.own, self.words = nodes, own, [program, "node", *options]
         self.turn, self.changed = threading.Lock(), threading.Condition()
         self.answers, self.outcomes, self.view, self.next = {}, {}, [0] * 8, 0
-        folder.mkdir(exist_ok=True)
         self.start()
 
     def start(self) -> None:
@@ -145,6 +155,7 @@ def main(program: str) -> int:
     nodes: list[Node] = []
     with tempfile.TemporaryDirectory() as folder:
         for own in range(3):
+            make_folder(program, own, Path(folder, str(own)))
             nodes.append(Node(nodes, program, own, Path(folder, str(own))))
         inc, best, put = nodes[0].submit(1, "inc 5"), nodes[1].submit(2, "raise 7"), nodes[2].submit(3, "put 9")
         for node in nodes:

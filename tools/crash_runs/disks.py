@@ -82,8 +82,8 @@ class Disk:
         self.notes.write_bytes(b"".join(struct.pack(NOTE, *it) for it in synced.items() if it[0] in here))
 
     def found(self) -> bytes:
-        """The journal, or nothing where none is made."""
-        return self.journal.read_bytes() if self.journal.exists() else b""
+        """The journal, which was made before the first life."""
+        return self.journal.read_bytes()
 
     def lose_power(self, draw: random.Random) -> str:
         """Leaves what a disk may have where the power was lost, and tells it."""
@@ -92,9 +92,7 @@ class Disk:
             os.replace(self.journal, self.new)
             os.replace(self.old, self.journal)
         self.old.unlink(missing_ok=True)
-        if not (found := self.found()):
-            return "no journal"
-        inode = self.journal.stat().st_ino
+        found, inode = self.found(), self.journal.stat().st_ino
         unsynced = found[self.synced().get(inode, 0):]
         left = left_of(draw, unsynced)
         self.journal.write_bytes(found[: len(found) - len(unsynced)] + left)

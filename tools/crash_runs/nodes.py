@@ -6,7 +6,8 @@ import select
 import subprocess
 import time
 from collections.abc import Callable
-from pathlib import Path
+
+from folders import Replica
 
 from .check import Entry
 from .disks import Disk, groups_of
@@ -27,12 +28,14 @@ class Node:
     """Its lines go into the log. Each call returns the messages that it printed."""
 
     def __init__(
-        self, words: list[str], own: int, folder: Path, note: Callable[[Entry], None], preload: dict[str, str]
+        self, replica: Replica, own: int, more: list[str], note: Callable[[Entry], None], preload: dict[str, str]
     ) -> None:
-        self.words, self.own, self.disk, self.note = words, own, Disk(folder), note
+        replica.folder.mkdir(parents=True)
+        self.words, self.own, self.disk, self.note = replica.node_words(*more), own, Disk(replica.folder), note
         paths = {"SYNC_NOTES": str(self.disk.notes), "SYNC_OLD": str(self.disk.old)}
         self.environment = {**os.environ, **preload, **paths}
-        self.errors = folder.with_suffix(".errors")
+        self.errors = replica.folder.with_suffix(".errors")
+        replica.make(self.environment)
         self.process: subprocess.Popen[bytes] | None = None
         self.line, self.held, self.lives = 0, b"", 0
         # What it printed while lines were written to it.

@@ -9,6 +9,8 @@ from collections import Counter
 from functools import cache
 from pathlib import Path
 
+from folders import Replica
+
 from . import carts
 from .check import Checker, Entry, Group
 from .clients import Client
@@ -45,7 +47,7 @@ def bases_of(program: str) -> str:
     """What stands behind how far another is in a `known` of no letter: bases of nothing, if the program reads them."""
     bases = " offer 0 tell 0"
     with tempfile.TemporaryDirectory() as folder:
-        words = [program, "node", "--replicas", "1", "--own", "0", "--journal", folder]
+        words = Replica(program, folder, 1, 0).make().node_words()
         line = f"known 1 0 0 has 0 view 0{bases}\n".encode()
         came = subprocess.run(words, input=line, capture_output=True, timeout=SECONDS, check=True)
     return "" if came.stderr else bases
@@ -68,9 +70,9 @@ class Run:
         self.figures: Counter[str] = Counter()
         self.nodes = []
         for own in range(self.group.replicas):
-            (folder / str(own)).mkdir(parents=True)
-            words = [program, *self.options(own), "--journal", str(folder / str(own))]
-            self.nodes.append(Node(words, own, folder / str(own), self.note, preload))
+            replica = Replica(program, folder / str(own), self.group.replicas, own, *self.options())
+            # A journal is compacted from 1 KiB on, or never.
+            self.nodes.append(Node(replica, own, ["--compact", str(self.compact)], self.note, preload))
         self.carts = {it.own: carts.Cart(cart) for it in self.nodes} if cart else {}
         self.work = self.drawn_work()
         # Of some nodes, whose clients number their submissions.
@@ -78,12 +80,10 @@ class Run:
         self.until = time.monotonic() + SECONDS
         self.note(("weather", 0, str(self.network.weather)))
 
-    def options(self, own: int) -> list[str]:
-        it = self.group
-        words = ["node", "--replicas", str(it.replicas), "--own", str(own), "--commits", str(it.commits)]
-        votes = ["--votes", *map(str, it.votes)] if set(it.votes) != {1} else []
-        # A journal is compacted from 1 KiB on, or never.
-        return [*words, "--cap", str(it.cap), "--compact", str(self.compact), *votes]
+    def options(self) -> list[str]:
+        """What the group has beside its replicas."""
+        votes = ["--votes", *map(str, self.group.votes)] if set(self.group.votes) != {1} else []
+        return ["--commits", str(self.group.commits), "--cap", str(self.group.cap), *votes]
 
     def note(self, entry: Entry) -> None:
         self.log.append(entry)
@@ -255,6 +255,7 @@ class Run:
     def flip(self, node: Node) -> None:
         """Starts a node that is down over a journal a bit of which has flipped, and flips it back."""
         journal, whole = node.disk.journal, node.disk.found()
+        # Where syncs do nothing a loss of power may leave no byte of it.
         if whole:
             journal.write_bytes(wrong := flipped(self.draw, whole))
             came = node.over(f"submit {node.own} 1 inc 9\n".encode())

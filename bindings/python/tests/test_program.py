@@ -23,11 +23,20 @@ PLACES = [BESIDE.parent / "crates" / "lattice" / "out" / "lattice", BESIDE / "la
 PROGRAM = os.environ.get("LATTICE_PROGRAM", next((str(place) for place in PLACES if place.is_file()), ""))
 
 
+# The group, in the words of `lattice init` and of `lattice node` alike.
+GROUP = ["--own", "0", "--replicas", "1", "--commits", "1"]
+
+
+def make_journal(folder: Path) -> None:
+    """Makes the journal of a folder that has none, as the program does: once, and not when a node starts."""
+    subprocess.run([PROGRAM, "init", str(folder), *GROUP], check=True)
+
+
 class Process:
     """A `lattice node` that is alone in its group, and gets back what it sends to itself."""
 
     def __init__(self, folder: Path) -> None:
-        words = [PROGRAM, "node", "--own", "0", "--replicas", "1", "--commits", "1", "--journal", str(folder)]
+        words = [PROGRAM, "node", *GROUP, "--journal", str(folder)]
         pipe = subprocess.PIPE
         self.process = subprocess.Popen(words, stdin=pipe, stdout=pipe, stderr=pipe, bufsize=0)
 
@@ -58,6 +67,8 @@ class Folders(InFolder):
 
     def by_program(self, life: int) -> None:
         """The program adds 7, after it found all that was before."""
+        if not life:
+            make_journal(self.folder)
         process = Process(self.folder)
         if life:
             self.assertIn(f"total {12 * life}", process.call(f"ask 0 {COUNTER} total", "answered"))
