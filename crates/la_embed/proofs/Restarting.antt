@@ -17,7 +17,7 @@ use Rattle.la_durable.specs.Nodes.{acts, acts_by, leaves_be, step}
 use Rattle.la_world.specs.LiveGroups.{LearntSet}
 use Rattle.la_world.specs.Together.{CallsKeepTogether}
 use Rattle.la_embed.specs.declared.outgoing.Outgoing.TheVariants as out
-use Rattle.la_embed.specs.Hosts.{HostState, IsHostStep}
+use Rattle.la_embed.specs.Hosts.{HostState, IsHostStep, lost_once}
 use Rattle.la_embed.specs.Journals.{journal_with}
 use Rattle.la_embed.specs.Together.{AreHostsTogether, AreStillTogether, AreLinesOfSent, IsCallOfSent, learnt_by_host}
 use Rattle.la_embed.specs.Together.{RestartsKeepHostsTogether}
@@ -74,11 +74,12 @@ restart_on calls (c ∷ cs) hosts letters learnt r before kept are at sent led =
     let given = says.1 in
     let next : HostState = record before {
       kept = mid.0;
+      lost = lost_once before.lost;
       journal = journal_with before.journal (leaves_be before.kept mid.0 call given) c.line;
     } in
     let does : IsHostStep before before.links call given next = record {
       does = says.3;
-      mail = inr (refl, refl);
+      mail = inr (refl, refl, refl);
       shelf = refl;
       handed = refl;
       journal = record { line = c.line; says = λ some. says.2; is = refl };

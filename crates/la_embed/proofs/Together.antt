@@ -97,10 +97,11 @@ no_letter standing letter e = false≢true (sym (ap is_standing e))
 
 -- an answer puts no letter there
 told_back : (standing : Standing) (before mail : List Outgoing) (letters : List Letter)
-    → IsToldBack standing before mail → AreSent before letters → AreSent mail letters
-told_back standing before mail letters (inr lost) old letter has =
-    old letter (subst (λ ms. Contains ms (out.Letter letter)) lost has)
-told_back standing before mail letters (inl put) old letter has =
+    → (lost_before lost : ℕ) → IsToldBack standing before mail lost_before lost → AreSent before letters
+    → AreSent mail letters
+told_back standing before mail letters n m (inr (same, lost)) old letter has =
+    old letter (subst (λ ms. Contains ms (out.Letter letter)) same has)
+told_back standing before mail letters n m (inl (put, lost)) old letter has =
     elim (Contains-append_cases before (out.Standing standing ∷ []) (out.Letter letter)
     (subst (λ ms. Contains ms (out.Letter letter)) put has)) [
       | inl there ↦ old letter there
@@ -160,9 +161,10 @@ put_behind own before letters more sent =
     (λ l has. Contains-append_left letters more l (sent l has))
 
 posted : (heard : Links) (made : ReplicaState) (sent : List code.Message) (before mail : List Outgoing) (noted : Links)
-    (letters : List Letter) → AreSent before letters → IsPosted heard made sent before mail noted
+    (letters : List Letter) (lost_before lost : ℕ) → AreSent before letters
+    → IsPosted heard made sent before mail noted lost_before lost
     → AreSent mail (letters ++ letters_of heard made sent)
-posted heard made sent before mail noted letters old (inl (put, now)) =
+posted heard made sent before mail noted letters n m old (inl ((put, now), lost)) =
     let all = letters ++ letters_of heard made sent in
     subst (λ ms. AreSent ms all) (sym put)
     (put_all made.own (letters_sent heard made sending.Call sent) before all
@@ -170,10 +172,10 @@ posted heard made sent before mail noted letters old (inl (put, now)) =
     Contains-append_right letters (letters_of heard made sent) l
     (some_letters heard made (is_chosen heard sending.Call) sent l has))
     (λ l has. Contains-append_left letters (letters_of heard made sent) l (old l has)))
-posted heard made sent before mail noted letters old (inr (lost, now)) =
+posted heard made sent before mail noted letters n m old (inr (same, now, lost)) =
     λ letter has.
     Contains-append_left letters (letters_of heard made sent) letter
-    (old letter (subst (λ ms. Contains ms (out.Letter letter)) lost has))
+    (old letter (subst (λ ms. Contains ms (out.Letter letter)) same has))
 
 -- ## They stay together
 
@@ -265,7 +267,8 @@ module _ (hosts : List HostState) (letters : List Letter) (learnt : List LearntS
       (sym is.learnt)
       (calls (kept_of_hosts hosts) letters learnt r before.kept after.kept is.action given heard are.together at_kept
       is.brought is.step)) is.own
-      (posted heard after.kept given.mail before.mail after.mail after.links letters waiting step.mail)
+      (posted heard after.kept given.mail before.mail after.mail after.links letters before.lost after.lost waiting
+      step.mail)
 
   again_on : RepeatsKeepTogether → (links : Links) (why : Sending) (after : HostState) (noted : Links)
       → after.kept ≡ before.kept → IsPutAgain before.kept links why before.mail after.mail noted
@@ -286,24 +289,26 @@ module _ (hosts : List HostState) (letters : List Letter) (learnt : List LearntS
 
   -- what a replica lacks was told anew, or nothing was
   mended_on : RepeatsKeepTogether → (lacks : Bool) (links : Links) (replica : ℕ) (after : HostState) (noted : Links)
-      → after.kept ≡ before.kept → IsMendedIf lacks before.kept links replica before.mail after.mail noted
+      → (lost_before lost : ℕ) → after.kept ≡ before.kept
+      → IsMendedIf lacks before.kept links replica before.mail after.mail noted lost_before lost
       → AreStillTogether hosts letters learnt r after
-  mended_on again false links replica after noted same (lost, now) =
-      quiet_on after same (subst (λ ms. AreSent ms letters) (sym lost) waiting)
-  mended_on again true links replica after noted same (inl sent) =
+  mended_on again false links replica after noted n m same (still, now, lost) =
+      quiet_on after same (subst (λ ms. AreSent ms letters) (sym still) waiting)
+  mended_on again true links replica after noted n m same (inl (sent, lost)) =
       again_on again links (sending.Lack replica) after noted same sent
-  mended_on again true links replica after noted same (inr (lost, now)) =
-      quiet_on after same (subst (λ ms. AreSent ms letters) (sym lost) waiting)
+  mended_on again true links replica after noted n m same (inr (still, now, lost)) =
+      quiet_on after same (subst (λ ms. AreSent ms letters) (sym still) waiting)
 
   -- how far the host is was told to another, or taken by itself
   answered_on : RepeatsKeepTogether → (is_own : Bool) (links : Links) (s : Standing) (after : HostState)
       → AnswersIf is_own (with_links before links) s after → AreStillTogether hosts letters learnt r after
   answered_on again false links s after (told, is) =
       quiet_on after (ap (λ (h : HostState). h.kept) is)
-      (told_back s before.mail after.mail letters told waiting)
+      (told_back s before.mail after.mail letters before.lost after.lost told waiting)
   answered_on again true links s after (mended, is) =
       let heard = answered_with links s in
-      mended_on again (is_lacked heard s.from) heard s.from after after.links (ap (λ (h : HostState). h.kept) is) mended
+      mended_on again (is_lacked heard s.from) heard s.from after after.links before.lost after.lost
+      (ap (λ (h : HostState). h.kept) is) mended
 
   -- what is received is of a letter that was sent
   taken_on : CallsKeepTogether → RepeatsKeepTogether → (after : HostState) (letter : Letter) (nothing : Bool)
@@ -332,7 +337,8 @@ module _ (hosts : List HostState) (letters : List Letter) (learnt : List LearntS
   read_on calls again after (Ok Tick) may takes = absurd takes
   read_on calls again after (Ok (Known s)) may (here, (mended, is)) =
       let heard = answered_with before.links s in
-      mended_on again (is_lacked heard s.from) heard s.from after after.links (ap (λ (h : HostState). h.kept) is) mended
+      mended_on again (is_lacked heard s.from) heard s.from after after.links before.lost after.lost
+      (ap (λ (h : HostState). h.kept) is) mended
   read_on calls again after (Ok (Receive m)) may (letter, is, takes) =
       let to : letter.parcel.to ≡ r =
       eqb-true letter.parcel.to before.kept.own
