@@ -33,7 +33,7 @@ use Rattle.la_world.specs.Headline.{IsStrictSubset}
 use Rattle.la_world.specs.Learnings.{learning_of, learnt}
 use Rattle.la_world.specs.LiveGroups.{LearntSet, LiveGroup, Reaches, live_group_of, learnt_set_of}
 use Rattle.la_world.specs.LiveGroups.{StandsForEvents, live_event, AreEventsOf, decisions_of}
-use Rattle.la_world.specs.Moments.{Moment, op_submitted, ops_submitted, IsStillToCome, id_to_come}
+use Rattle.la_world.specs.Moments.{GroupMoment, op_submitted, ops_submitted, IsStillToCome, id_to_come}
 use Rattle.la_world.specs.Moments.{IsShownThen, NothingWaits, NotedAreComparable, NotedGrow, ShownAreOneHistory}
 use Rattle.la_world.specs.Moments.{ViewsOnlyGrow, ViewsAreLargestThen, ShownWereSubmitted, NotedHoldTheirOwn}
 use Rattle.la_world.specs.Moments.{ShownAreInOrder, MarksAreCurrent, RemovedAreWithIt, IsSafeOver}
@@ -272,7 +272,7 @@ one_in_order g newer events s u id was is late holds =
 -- ## One moment
 
 -- these events are its calls, and lead to it
-record StandsAt (c : Config) (now : Moment) (events : Past) : Type 0 where
+record StandsAt (c : Config) (now : GroupMoment) (events : Past) : Type 0 where
   group : LiveGroup
   reached : Reaches c now.calls group
   stands : StandsForEvents c group events
@@ -286,7 +286,7 @@ get_from_map f [] k y e = absurd (none-some y e)
 get_from_map f (x ∷ xs) zero y e = (x, refl, same_Some (f x) y e)
 get_from_map f (x ∷ xs) (suc k) y e = get_from_map f xs k y e
 
-module _ (c : Config) (now : Moment) (events : Past) (h : StandsAt c now events) where
+module _ (c : Config) (now : GroupMoment) (events : Past) (h : StandsAt c now events) where
   abbrev g : Group
   g = live_group_of c
 
@@ -466,7 +466,7 @@ module _ (c : Config) (now : Moment) (events : Past) (h : StandsAt c now events)
 
 -- ## Two moments
 
-module _ (c : Config) (before after : Moment) (events newer : Past) (was : StandsAt c before events)
+module _ (c : Config) (before after : GroupMoment) (events newer : Past) (was : StandsAt c before events)
     (is : StandsAt c after (newer ++ events)) where
   abbrev its : Group
   its = live_group_of c

@@ -1,6 +1,6 @@
--- What replicas that run each by itself keep over all moments: two that are taken as they come, of one group, the second
--- as late as the first or later, whatever was lost, repeated or delivered late meanwhile, and whichever replica was
--- killed and started again. The fields have the words of Headline's `KeepsAll`.
+-- What replicas that run each by itself keep over all moments: any two of one group, the second as late as the first or
+-- later, whatever was lost, repeated or delivered late meanwhile, and whichever replica was killed and started again.
+-- The fields have the words of Headline's `KeepsAll`.
 use Rattle.std.specs.Prelude.{◌≡◌, ◌⊎◌, ◌==◌, ℕ, ◌+◌, ◌<◌, true, List, [], ◌∷◌, ◌++◌, length, map, slice_get, Contains}
 use Rattle.std.specs.Prelude.{Some, IsSome, if◌then◌else◌}
 use Rattle.la_set.specs.declared.update.Op.TheVariants.{Remove}
@@ -34,7 +34,7 @@ use Rattle.la_world.specs.Together.{AreTogether, AreSomeInOrder}
 
 -- ## A moment
 
-pub record Moment : Type 0 where
+pub record GroupMoment : Type 0 where
   -- all that replicas were called for by then and accepted, the newest first, each with its replica
   pub calls : List (ℕ × NodeCall)
   -- the replicas, from 0 on
@@ -72,19 +72,19 @@ NothingWaits q = (x : Instance) → slice_get q.instances 0 ≡ Some x → x.pro
 
 -- ### What is shown of instance 0, from which questions are answered
 
-pub record IsViewThen (m : Moment) (s : Histories) : Type 0 where
+pub record IsViewThen (m : GroupMoment) (s : Histories) : Type 0 where
   pub replica : ReplicaState
   pub has : Contains m.states replica
   pub is : replica.view ≡ s
 
-pub record WasNotedThen (m : Moment) (s : Histories) : Type 0 where
+pub record WasNotedThen (m : GroupMoment) (s : Histories) : Type 0 where
   pub noted : LearntSet
   pub has : Contains m.learnt noted
   pub of_objects : noted.instance ≡ 0
   pub is : noted.updates ≡ s
 
 -- one of the replicas has it as its view, or one had said that it has learnt it
-abbrev pub IsShownThen : Moment → Histories → Type 0
+abbrev pub IsShownThen : GroupMoment → Histories → Type 0
 IsShownThen m s = IsViewThen m s ⊎ WasNotedThen m s
 
 -- a set that these calls learnt, whoever was told of it
@@ -96,49 +96,49 @@ pub record CallsLearnt (c : Config) (calls : List (ℕ × NodeCall)) (x : Learnt
 -- ## What is learnt and shown
 
 -- of any two sets that were learnt in one instance, whoever said so and when, one contains the other
-abbrev pub NotedAreComparable : (before after : Moment) → Type 0
+abbrev pub NotedAreComparable : (before after : GroupMoment) → Type 0
 NotedAreComparable before after =
     (x y : LearntSet) → Contains before.learnt x → Contains after.learnt y → x.instance ≡ y.instance →
     AreComparable x.updates y.updates
 
 -- of those that one replica learnt in one instance the later is strictly larger, also after it was started again
-abbrev pub NotedGrow : Moment → Type 0
+abbrev pub NotedGrow : GroupMoment → Type 0
 NotedGrow now =
     (j k : ℕ) (x y : LearntSet) → slice_get now.learnt j ≡ Some x → slice_get now.learnt k ≡ Some y →
     x.instance ≡ y.instance → x.replica ≡ y.replica → j < k → IsStrictSubset x.updates y.updates
 
 -- all views, and all sets of instance 0 that were learnt, are one chain
-abbrev pub ShownAreOneHistory : (before after : Moment) → Type 0
+abbrev pub ShownAreOneHistory : (before after : GroupMoment) → Type 0
 ShownAreOneHistory before after =
     (s t : Histories) → IsShownThen before s → IsShownThen after t → AreComparable s t
 
 -- no view shrinks
-abbrev pub ViewsOnlyGrow : (before after : Moment) → Type 0
+abbrev pub ViewsOnlyGrow : (before after : GroupMoment) → Type 0
 ViewsOnlyGrow before after =
     (r : ℕ) (q p : ReplicaState) → slice_get before.states r ≡ Some q → slice_get after.states r ≡ Some p →
     IsSubset q.view p.view
 
 -- a view contains each set of instance 0 that its replica said it has learnt, and is one that some replica learnt, or
 -- empty
-pub record IsLargestThen (c : Config) (now : Moment) (r : ℕ) (view : Histories) : Type 0 where
+pub record IsLargestThen (c : Config) (now : GroupMoment) (r : ℕ) (view : Histories) : Type 0 where
   pub contains : (x : LearntSet) → Contains now.learnt x → x.instance ≡ 0 → x.replica ≡ r → IsSubset x.updates view
   pub is_one :
       ((x : LearntSet) × CallsLearnt c now.calls x × (x.instance ≡ 0) × (x.updates ≡ view)) ⊎ (view ≡ empty)
 
-abbrev pub ViewsAreLargestThen : Config → Moment → Type 0
+abbrev pub ViewsAreLargestThen : Config → GroupMoment → Type 0
 ViewsAreLargestThen c now =
     (r : ℕ) (q : ReplicaState) → slice_get now.states r ≡ Some q → IsLargestThen c now r q.view
 
 -- ## What a set holds
 
 -- each update of what is shown was submitted by then, to the replica whose update it is
-abbrev pub ShownWereSubmitted : Moment → Type 0
+abbrev pub ShownWereSubmitted : GroupMoment → Type 0
 ShownWereSubmitted now =
     (s : Histories) (u : Update) → IsShownThen now s → ContainsUpdate s u → WasCalledFor now.calls u
 
 -- Where nothing waited at a replica, each set that it learns from then on holds all that it had submitted; any other
 -- that it says it has learnt lay in its view then.
-abbrev pub NotedHoldTheirOwn : (before after : Moment) → Type 0
+abbrev pub NotedHoldTheirOwn : (before after : GroupMoment) → Type 0
 NotedHoldTheirOwn before after =
     (y : LearntSet) (q : ReplicaState) → Contains after.learnt y → y.instance ≡ 0 →
     slice_get before.states y.replica ≡ Some q → NothingWaits q →
@@ -146,20 +146,20 @@ NotedHoldTheirOwn before after =
     ⊎ ((u : Update) → u.id.replica ≡ y.replica → WasCalledFor before.calls u → ContainsUpdate y.updates u)
 
 -- what is shown with an update that was submitted after a moment, as a Mark, contains all that was shown by that moment
-abbrev pub ShownAreInOrder : (before after : Moment) → Type 0
+abbrev pub ShownAreInOrder : (before after : GroupMoment) → Type 0
 ShownAreInOrder before after =
     (s t : Histories) (id : UpdateId) → IsShownThen before s → IsStillToCome before.calls id →
     IsShownThen after t → IsSome (get t id) → IsSubset s t
 
 -- an answer by a view: the query's value over a set that contains all that was shown by a moment
-pub record IsCurrentSince (before : Moment) (objects : List (ℕ × Kind)) (object : ℕ) (query : Query) (answer : Answer)
+pub record IsCurrentSince (before : GroupMoment) (objects : List (ℕ × Kind)) (object : ℕ) (query : Query) (answer : Answer)
     : Type 0 where
   pub read : Histories
   pub value : answer_at (record { view = read; objects = objects }) object query ≡ Some answer
   pub current : (s : Histories) → IsShownThen before s → IsSubset s read
 
 -- so is each answer by a view that holds an update which was submitted after it, as a Mark
-abbrev pub MarksAreCurrent : (before after : Moment) → Type 0
+abbrev pub MarksAreCurrent : (before after : GroupMoment) → Type 0
 MarksAreCurrent before after =
     (p : ReplicaState) (mark : UpdateId) (objects : List (ℕ × Kind)) (object : ℕ) (query : Query) (answer : Answer) →
     Contains after.states p → IsSome (get p.view mark) → IsStillToCome before.calls mark →
@@ -167,14 +167,14 @@ MarksAreCurrent before after =
     IsCurrentSince before objects object query answer
 
 -- a set that was shown by then has this update
-pub record WasShown (m : Moment) (id : UpdateId) : Type 0 where
+pub record WasShown (m : GroupMoment) (id : UpdateId) : Type 0 where
   pub set : Histories
   pub shown : IsShownThen m set
   pub holds : IsSome (get set id)
 
 -- where a replica accepted a Remove right after a moment, by which each update that it names was shown, what is shown
 -- with the Remove has these updates
-abbrev pub RemovedAreWithIt : (before after : Moment) → Type 0
+abbrev pub RemovedAreWithIt : (before after : GroupMoment) → Type 0
 RemovedAreWithIt before after =
     (more : List (ℕ × NodeCall)) (r object : ℕ) (tags : List UpdateId) (s : Histories) →
     after.calls ≡ more ++ (r, Submitted (record { object = object; op = Remove tags })) ∷ before.calls →
@@ -185,7 +185,7 @@ RemovedAreWithIt before after =
 -- ## Adopt-commit
 
 -- the three safety properties, of what participants returned, at whatever moments
-pub record IsSafeOver (before after : Moment) : Type 0 where
+pub record IsSafeOver (before after : GroupMoment) : Type 0 where
   -- where one of two commits, both have its value
   pub agree : (q p : ReplicaState) (k : ℕ) (o other : Outcome) → Contains before.states q → Contains after.states p →
       returned_by k q ≡ Some o → returned_by k p ≡ Some other →
@@ -199,7 +199,7 @@ pub record IsSafeOver (before after : Moment) : Type 0 where
       Contains after.states p → returned_by k p ≡ Some o → o ≡ Commit value
 
 -- what a replica returned it still returns, also after it was started again
-abbrev pub OutcomesNeverChange : (before after : Moment) → Type 0
+abbrev pub OutcomesNeverChange : (before after : GroupMoment) → Type 0
 OutcomesNeverChange before after =
     (r : ℕ) (q p : ReplicaState) → slice_get before.states r ≡ Some q → slice_get after.states r ≡ Some p →
     OutcomesStayIn q p
@@ -207,7 +207,7 @@ OutcomesNeverChange before after =
 -- ## Questions
 
 -- by equal views objects of one kind under a number answer alike
-abbrev pub ViewsAnswerAlike : (before after : Moment) → Type 0
+abbrev pub ViewsAnswerAlike : (before after : GroupMoment) → Type 0
 ViewsAnswerAlike before after =
     (q p : ReplicaState) (objects others : List (ℕ × Kind)) (object : ℕ) (query : Query) (a b : Answer) →
     Contains before.states q → Contains after.states p → q.view ≡ p.view →
@@ -217,7 +217,7 @@ ViewsAnswerAlike before after =
 
 -- ## All of it
 
-pub record MomentsKeepAll (c : Config) (before after : Moment) : Type 0 where
+pub record MomentsKeepAll (c : Config) (before after : GroupMoment) : Type 0 where
   pub comparable : NotedAreComparable before after
   pub grows : NotedGrow after
   pub one_history : ShownAreOneHistory before after
@@ -242,7 +242,7 @@ TogetherKeepAll =
     (record { calls = more ++ calls; states = after; learnt = is })
 
 -- so do nodes of a live group, of which every learning is said
-abbrev pub moment_of_group : (calls : List (ℕ × NodeCall)) → LiveGroup → Moment
+abbrev pub moment_of_group : (calls : List (ℕ × NodeCall)) → LiveGroup → GroupMoment
 moment_of_group calls group = record { calls = calls; states = group.replicas; learnt = group.learnt }
 
 abbrev pub LiveGroupsKeepAllOver : Type 0
@@ -254,7 +254,7 @@ LiveGroupsKeepAllOver = (c : Config) (more calls : List (ℕ × NodeCall)) (befo
 
 -- Events that are these calls, one by one: the sets that were noted are some of those that the events learnt, in order,
 -- and of all these the group keeps what a world promises, in every instance.
-pub record EventsKeepAll (c : Config) (now : Moment) : Type 0 where
+pub record EventsKeepAll (c : Config) (now : GroupMoment) : Type 0 where
   pub events : Past
   pub are : AreEventsOf now.calls events
   pub listed : AreSomeInOrder now.learnt (map learnt_set_of (learnt (trace (live_group_of c) events)))
