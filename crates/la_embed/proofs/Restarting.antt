@@ -119,11 +119,10 @@ restart_on keep (l ∷ cs) c past hosts letters learnt r before kept are at sent
               let is = on.of_host x later in
               (is.0, still_said cs (l ∷ cs) (λ d has. Contains-later l cs d has) x.1 is.1)
           | inr new ↦ elim (Contains-cons_cases (r, stepped.0) [] x new) [
-            | inl same ↦
-                (
-                  ap (λ (y : ℕ × NodeCall). y.0) (sym same),
-                  subst (λ (y : ℕ × NodeCall). IsSaidByLines (l ∷ cs) y.1) same (before.kept, here),
-                )
+            | inl same ↦ (
+              ap (λ (y : ℕ × NodeCall). y.0) (sym same),
+              subst (λ (y : ℕ × NodeCall). IsSaidByLines (l ∷ cs) y.1) same (before.kept, here),
+            )
             | inr none ↦ absurd (Contains-none x none)
           ]
         ];

@@ -334,11 +334,10 @@ module _ (c : Config) (past : List (ℕ × NodeCall)) (hosts : List HostState) (
       record {
         newer = (r, on.0) ∷ [];
         of_host = λ x has. elim (Contains-cons_cases (r, on.0) [] x has) [
-          | inl same ↦
-              (
-                ap (λ (y : ℕ × NodeCall). y.0) (sym same),
-                subst (λ (y : ℕ × NodeCall). IsReceipt y.1) same (is_receipt before.kept m on.0 on.1),
-              )
+          | inl same ↦ (
+            ap (λ (y : ℕ × NodeCall). y.0) (sym same),
+            subst (λ (y : ℕ × NodeCall). IsReceipt y.1) same (is_receipt before.kept m on.0 on.1),
+          )
           | inr none ↦ absurd (Contains-none x none)
         ];
         more = letters_of heard after.kept given.mail;

@@ -40,6 +40,7 @@ use Rattle.la_serve.specs.Numbered.{submissions_by, submission_under, is_next_nu
 use Rattle.la_durable.specs.CallLines.{CallLine}
 use Rattle.la_durable.specs.Nodes.{node_call, parcel_of}
 use Rattle.la_durable.specs.Restarts.{IsCallOf, LeadBetween, RestartsTakeCalls}
+use Rattle.la_world.specs.Moments.{op_submitted}
 use Rattle.la_serve.specs.Once.{MayGoOn, AddsUnder, AsksUnder, IsAskedByLine, GoesOnOver, NumbersCountOnce}
 use Rattle.la_serve.specs.Serving.{AreTurns}
 use Rattle.la_serve.specs.Said.{why_word, unfit, asks_of, IsSaidUnder, IsSaidUnlessFit}
@@ -48,7 +49,7 @@ use Rattle.la_serve.specs.Turns.{ServerState, Turn, OneOf, own_of, only_says, is
 use Rattle.la_serve.specs.Turns.{HasFault, SaysCall, IsCallTurn, IsQuestionTurn, IsTakeTurn, IsRequestTurn}
 use Rattle.la_serve.specs.Turns.{IsShortTurn, IsTurn}
 use Rattle.la_serve.proofs.Processes.{call_of_line, where_some, where_then}
-use Rattle.la_serve.proofs.Submissions.{ProposersGoOn, GoesOnWith, added, step_goes}
+use Rattle.la_serve.proofs.Submissions.{ProposersGoOn, GoesOnWith, step_goes}
 use Rattle.la_serve.proofs.TurnKinds.{IsHeardSo, one_of, what}
 
 -- ## What stands under a number
@@ -334,31 +335,32 @@ no_receipt q m d e =
 
 module _ (laws : ProposersGoOn) (handed : List CallLine) where
   -- what a line says that asks this
-  asked_by : (q : ReplicaState) (call : NodeCall) → IsCallOf handed q call → (d : ObjectOp) → Contains (added call) d
-      → IsAskedByLine q.own handed d
-  asked_by q (Proposed k value) is d has = absurd (Contains-none d has)
-  asked_by q (Received m) is d has = absurd (Contains-none d has)
-  asked_by q (Submitted e) is d has =
-      elim (Contains-cons_cases e [] d has) [
+  asked_by : (q : ReplicaState) (call : NodeCall) → IsCallOf handed q call → (d : ObjectOp)
+      → Contains (op_submitted call) d → IsAskedByLine q.own handed d
+  asked_by q (Proposed k value) is x has = absurd (Contains-none x has)
+  asked_by q (Received m) is x has = absurd (Contains-none x has)
+  asked_by q (Submitted e) is x has =
+      elim (Contains-cons_cases e [] x has) [
         | inl same ↦ submits is.says refl is.is same
-        | inr none ↦ absurd (Contains-none d none)
+        | inr none ↦ absurd (Contains-none x none)
       ]
     where
-      submits : (says : WireCall) → is.says ≡ says → node_call q says ≡ Some (Submitted e) → e ≡ d
-          → IsAskedByLine q.own handed d
+      submits : (says : WireCall) → is.says ≡ says → node_call q says ≡ Some (Submitted e) → e ≡ x
+          → IsAskedByLine q.own handed x
       submits (Submit replica object does) same to this =
           let own = where_some (replica == q.own) (Submitted (op_on object does)) (Submitted e) to in
-          let op : op_on object does ≡ d = same_op (op_on object does) e own.1 ∙ this in
+          let asked : op_on object does ≡ x = same_op (op_on object does) e own.1 ∙ this in
           record {
             line = is.line;
             among = is.among;
             says =
                 is.named ∙ ap Some same
                 ∙ ap (λ r. Some (Submit r object does)) (eqb-true replica q.own own.0)
-                ∙ ap (λ (o : ObjectOp). Some (Submit q.own o.object o.op)) op;
+                ∙ ap (λ (o : ObjectOp). Some (Submit q.own o.object o.op)) asked;
           }
       submits (Decide replica commit value) same to this =
-          absurd (no_submission commit value e (where_some (replica == q.own) (Proposed commit value) (Submitted e) to).1)
+          absurd
+          (no_submission commit value e (where_some (replica == q.own) (Proposed commit value) (Submitted e) to).1)
       submits (Ask replica object query) same to this = absurd (none-some (Submitted e) to)
       submits Tick same to this = absurd (none-some (Submitted e) to)
       submits (Known standing) same to this = absurd (none-some (Submitted e) to)
@@ -378,17 +380,17 @@ module _ (laws : ProposersGoOn) (handed : List CallLine) where
       let first = step_goes laws q may call made.0 made.1 in
       let next = is.1.0 in
       let own : next.own ≡ q.own = ap (λ (s : ReplicaState). s.own) (sym made.2) ∙ first.own in
-      let adds : submissions_by next ≡ submissions_by q ++ added call =
+      let adds : submissions_by next ≡ submissions_by q ++ op_submitted call =
       ap submissions_by (sym made.2) ∙ first.adds in
       let rest = lead_goes calls next after (subst MayGoOn made.2 first.may) is.1.2 in
       record {
         may = rest.may;
         own = rest.own ∙ own;
-        more = added call ++ rest.more;
+        more = op_submitted call ++ rest.more;
         adds =
             rest.adds ∙ ap (λ ds. ds ++ rest.more) adds
-            ∙ append_assoc (submissions_by q) (added call) rest.more;
-        asked = λ d has. elim (Contains-append_cases (added call) rest.more d has) [
+            ∙ append_assoc (submissions_by q) (op_submitted call) rest.more;
+        asked = λ d has. elim (Contains-append_cases (op_submitted call) rest.more d has) [
           | inl here ↦ asked_by q call is.0 d here
           | inr later ↦ subst (λ o. IsAskedByLine o handed d) own (rest.asked d later)
         ];

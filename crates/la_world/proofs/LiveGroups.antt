@@ -63,7 +63,12 @@ use Rattle.la_node.specs.Nodes.{NodeState}
 use Rattle.la_world.specs.Calls.{views_of, decisions_at}
 use Rattle.la_world.specs.Headline.{IsAdoptCommit}
 use Rattle.la_world.specs.Promises.{GroupKeepsAll}
-use Rattle.la_world.specs.LiveGroups.{LearntSet, LiveGroup, IsHeard, learnt_set, learnt_by_call, IsGroupStep, IsGroupStart, Reaches, live_group_of, learnt_set_of, StandsForEvents, live_event, AreEventsOf, IsAmong, IsReached, AreLive, replicas_of, decisions_of, LiveGroupsStandForEvents, LiveGroupsKeepAll, LiveLearntAreComparable, LiveViewsAreComparable, LiveNodesAreOneHistory, NewNodesAreLive, NetworksMayLose, CallsKeepLive, UnheardCallsKeepLive}
+use Rattle.la_world.specs.LiveGroups.{LearntSet, LiveGroup, IsHeard, learnt_set, learnt_by_call, IsGroupStep}
+use Rattle.la_world.specs.LiveGroups.{IsGroupStart, Reaches, live_group_of, learnt_set_of, StandsForEvents}
+use Rattle.la_world.specs.LiveGroups.{live_event, AreEventsOf, IsAmong, IsReached, AreLive, replicas_of, decisions_of}
+use Rattle.la_world.specs.LiveGroups.{LiveGroupsStandForEvents, LiveGroupsKeepAll, LiveLearntAreComparable}
+use Rattle.la_world.specs.LiveGroups.{LiveViewsAreComparable, LiveNodesAreOneHistory, NewNodesAreLive}
+use Rattle.la_world.specs.LiveGroups.{NetworksMayLose, CallsKeepLive, UnheardCallsKeepLive}
 use Rattle.la_world.specs.Rebased.{TellsAs, IsRetold, AreRetold}
 use Rattle.la_world.proofs.Lists.{AllIn, AllIn_at, IsIn_get, contains_IsIn, IsIn_contains, IsIn_mapped, IsIn_place, get_mapped, made_at}
 use Rattle.la_world.proofs.Openings.{IsOf}

@@ -181,8 +181,8 @@ taken_now x t b e plain =
     ap₂ (λ v w. taken_at b.ballot v w all (taken t i r)) (ap (only i r) e ∙ only_same b) plain
     ∙ cond-true (b.ballot == b.ballot) all (taken t i r b.ballot) (eq-eqb b.ballot b.ballot refl)
 
-pub ballots_still : (g : Group) (more events : List Event) (i r : ℕ) (b : Opening) → IsIn b (ballots (trace g events) i r)
-    → IsIn b (ballots (trace g (more ++ events)) i r)
+pub ballots_still : (g : Group) (more events : List Event) (i r : ℕ) (b : Opening)
+    → IsIn b (ballots (trace g events) i r) → IsIn b (ballots (trace g (more ++ events)) i r)
 unfolding trace
 ballots_still g [] events i r b h = h
 ballots_still g (e ∷ more) events i r b h =

@@ -152,8 +152,8 @@ ShownAreInOrder before after =
     IsShownThen after t → IsSome (get t id) → IsSubset s t
 
 -- an answer by a view: the query's value over a set that contains all that was shown by a moment
-pub record IsCurrentSince (before : GroupMoment) (objects : List (ℕ × Kind)) (object : ℕ) (query : Query) (answer : Answer)
-    : Type 0 where
+pub record IsCurrentSince (before : GroupMoment) (objects : List (ℕ × Kind)) (object : ℕ) (query : Query)
+    (answer : Answer) : Type 0 where
   pub read : Histories
   pub value : answer_at (record { view = read; objects = objects }) object query ≡ Some answer
   pub current : (s : Histories) → IsShownThen before s → IsSubset s read
