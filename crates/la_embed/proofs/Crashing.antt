@@ -1,5 +1,6 @@
 -- What a crash leaves of a journal.
-use Rattle.std.proofs.Common.{◌≡◌, inl, inr, ℕ, List, [], ◌++◌, Option, Some, None, length, take, refl, sym, ap, ◌∙◌, arith}
+use Rattle.std.proofs.Common.{◌≡◌, inl, inr, ℕ, List, [], ◌++◌, Option, Some, None, length, take, refl, sym, ap, ◌∙◌}
+use Rattle.std.proofs.Common.{arith}
 use Rattle.std.specs.Prelude.{if◌then◌else◌}
 use Rattle.std.proofs.lemmas.List.{length-append, take-append-le, take_all}
 use Rattle.std.proofs.lemmas.Option.{none-some}
@@ -57,7 +58,8 @@ crashes_keep unread j kept left leads (torn, inr none, is) =
         (
           0,
           omega arith,
-          ap (leads_from j.start) is ∙ unread j.start j.disk torn (ends_whole j.start leads.told j.disk leads.on_disk leads.ends) none
+          ap (leads_from j.start) is
+              ∙ unread j.start j.disk torn (ends_whole j.start leads.told j.disk leads.on_disk leads.ends) none
               ∙ leads.on_disk,
         ),
       ),

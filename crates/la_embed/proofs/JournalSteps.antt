@@ -1,5 +1,5 @@
 -- What becomes of a journal, and where it leads.
-use Rattle.std.proofs.Common.{◌≡◌, ◌+◌, ◌-◌, ◌⊎◌, ⊎_elim, inl, inr, ℕ, zero, suc, Bool, true, false, List, [], ◌∷◌}
+use Rattle.std.proofs.Common.{◌≡◌, ◌+◌, ◌-◌, ◌⊎◌, ⊎_elim, inl, inr, ℕ, Bool, true, false, List, [], ◌∷◌}
 use Rattle.std.proofs.Common.{◌++◌, Option, Some, None}
 use Rattle.std.proofs.Common.{length, take, refl, sym, ap, subst, ◌∙◌, arith, append-nil}
 use Rattle.std.specs.Prelude.{Result, Ok, Err, option_map}
@@ -19,7 +19,6 @@ use Rattle.la_node.specs.Steps.{Given, given_of}
 use Rattle.la_wire.specs.Calls.{called}
 use Rattle.la_durable.specs.declared.error.NodeError.{NodeError}
 use Rattle.la_durable.specs.CallLines.{CallLine, call_line, or_tick}
-use Rattle.la_durable.specs.Heads.{node_head}
 use Rattle.la_durable.specs.Inputs.{InputState, IsInput}
 use Rattle.la_durable.specs.Nodes.{step, empty_shelf, answer_to, leaves_be, node_answers, says_still}
 use Rattle.la_durable.specs.Restarts.{leads_from}

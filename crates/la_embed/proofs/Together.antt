@@ -276,7 +276,7 @@ module _ (c : Config) (past : List (ℕ × NodeCall)) (hosts : List HostState) (
             (keep c past (kept_of_hosts hosts) letters learnt r before.kept after.kept is.action given heard
             are.together at_kept is.brought is.step)) is.own
             (posted heard after.kept given.mail before.mail after.mail after.links letters before.lost after.lost
-             waiting step.mail),
+            waiting step.mail),
       )
 
   again_on : RepeatsKeepTogether → (Is : NodeCall → Type 0) (links : Links) (why : Sending) (after : HostState)

@@ -1,13 +1,13 @@
 -- The journal of a host, in a file of its program: what is on the disk, what is to be put there next, and what was
 -- taken since.
-use Rattle.std.specs.Prelude.{◌≡◌, ◌≢◌, ◌⊎◌, ⊤, ℕ, ◌-◌, Bool, List, [], ◌∷◌, ◌++◌, length, map, take, Option, Some}
+use Rattle.std.specs.Prelude.{◌≡◌, ◌≢◌, ◌⊎◌, ⊤, ℕ, ◌-◌, Bool, List, [], ◌++◌, length, map, take, Option, Some}
 use Rattle.std.specs.Prelude.{None, Result, Ok, Err, false}
 use Rattle.la_journal.specs.Disk.{Torn}
 use Rattle.la_journal.specs.Durable.{EndsInGroups, IsSettled}
 use Rattle.la_journal.specs.Held.{held_bytes, may_leave_of}
 use Rattle.la_journal.specs.Journal.{lines}
 use Rattle.la_journal.specs.Playing.{IsNotPlayed, rest_in}
-use Rattle.la_journal.specs.Records.{ended, head_line, parts}
+use Rattle.la_journal.specs.Records.{ended, parts}
 use Rattle.la_journal.specs.Machine.{steps, LeadsToSome}
 use Rattle.la_journal.specs.Staging.{kept_unless}
 use Rattle.la_replica.specs.ReplicaState.{ReplicaState}

@@ -1,5 +1,6 @@
 -- What a journal says: a state, and then calls.
-use Rattle.std.specs.Prelude.{◌≡◌, ℕ, Bool, false, not, ◌&&◌, List, [], ◌∷◌, ◌++◌, Option, Some, None, if◌then◌else◌, ◌==◌}
+use Rattle.std.specs.Prelude.{◌≡◌, ℕ, Bool, false, not, ◌&&◌, List, [], ◌∷◌, ◌++◌, Option, Some, None, if◌then◌else◌}
+use Rattle.std.specs.Prelude.{◌==◌}
 use Rattle.la_journal.specs.Lines.{IsClean}
 use Rattle.la_journal.specs.Commits.{same_bytes, is_record}
 use Rattle.la_journal.specs.Records.{Parts, parts, ended, is_damage}
@@ -67,7 +68,7 @@ abbrev pub has_head : (head : List ℕ) → Option Parts → Bool
 has_head head None = false
 has_head head (Some p) = same_bytes head p.text && not (is_damage p.rest)
 
--- A file begins with a head that says this, and what stands behind its groups is no damage. So one without a byte is not
--- sound: nothing says whose it is, and it may be all that is left of another.
+-- A file begins with a head that says this, and what stands behind its groups is no damage. So one without a byte is
+-- not sound: nothing says whose it is, and it may be all that is left of another.
 abbrev pub is_sound : (head file : List ℕ) → Bool
 is_sound head file = has_head head (parts file)

@@ -1,9 +1,9 @@
 -- What is handed on once more was heard.
 use Rattle.std.proofs.Common.{ℕ, List, [], ◌∷◌, ◌++◌, subst, sym, append-nil, arith}
 use Rattle.la_tick.specs.declared.feed.Feed.{Feed}
-use Rattle.la_tick.specs.Ticks.{Heard, Hearing, Stands, HandsOn}
+use Rattle.la_tick.specs.Ticks.{Happening, Hearing, Stands, HandsOn}
 
-pub hears_one : (f : Feed) (x : Heard) (heard : Hearing) (handed : List ℕ) → Stands f (x ∷ heard) handed
+pub hears_one : (f : Feed) (x : Happening) (heard : Hearing) (handed : List ℕ) → Stands f (x ∷ heard) handed
     → HandsOn f heard handed []
 hears_one f x heard handed now = record {
   new = x ∷ [];

@@ -11,14 +11,14 @@ use Rattle.la_tick.specs.declared.feed.Feed.{Feed}
 -- ## What was heard
 
 -- bytes came, an interval passed, or the reader was told that intervals begin anew
-pub data Heard : Type 0 where
-  Came : List ℕ → Heard
-  Passed : Heard
-  Anew : Heard
+pub data Happening : Type 0 where
+  Came : List ℕ → Happening
+  Passed : Happening
+  Anew : Happening
 
 -- what was heard, the newest first
 abbrev pub Hearing : Type 0
-Hearing = List Heard
+Hearing = List Happening
 
 -- `tick` and a line's end
 abbrev pub tick_line : List ℕ

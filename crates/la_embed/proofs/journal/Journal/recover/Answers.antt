@@ -18,7 +18,8 @@ invariant_of-journal c =
     let is = ap kept_by c.in_ok-machine.ensures.start in
     let ok = c.in-Ok.ensures in
     let found = c.found.ensures.bytes ∙ c.deref.ensures.value in
-    noted_start c.args.config c.args.own c.args.found.items c.new-staged.result.written.items c.new-staged.result.text.items
+    noted_start c.args.config c.args.own c.args.found.items c.new-staged.result.written.items
+    c.new-staged.result.text.items
     (kept_by c.in_ok-machine.machine) (kept_by c.in-Ok.durable.machine) c.in-Ok.durable.disk c.in-Ok.durable.closed is
     (ok.written ∙ ap recovered_file found) c.new-staged.ensures.none_written
     c.new-staged.ensures.nothing (ap (leads_from (kept_by c.in_ok-machine.machine)) (sym found) ∙ ok.state) ok.leads
@@ -35,7 +36,8 @@ returns-in-Ok-clause-leads c =
     let is = ap kept_by c.in_ok-machine.ensures.start in
     let ok = c.in-Ok.ensures in
     let found = c.found.ensures.bytes ∙ c.deref.ensures.value in
-    noted_start c.args.config c.args.own c.args.found.items c.new-staged.result.written.items c.new-staged.result.text.items
+    noted_start c.args.config c.args.own c.args.found.items c.new-staged.result.written.items
+    c.new-staged.result.text.items
     (kept_by c.in_ok-machine.machine) (kept_by c.in-Ok.durable.machine) c.in-Ok.durable.disk c.in-Ok.durable.closed is
     (ok.written ∙ ap recovered_file found) c.new-staged.ensures.none_written
     c.new-staged.ensures.nothing (ap (leads_from (kept_by c.in_ok-machine.machine)) (sym found) ∙ ok.state) ok.leads
@@ -50,7 +52,8 @@ returns-in-Ok-clause-ok c =
     let is = ap kept_by c.in_ok-machine.ensures.start in
     let ok = c.in-Ok.ensures in
     let found = c.found.ensures.bytes ∙ c.deref.ensures.value in
-    noted_start c.args.config c.args.own c.args.found.items c.new-staged.result.written.items c.new-staged.result.text.items
+    noted_start c.args.config c.args.own c.args.found.items c.new-staged.result.written.items
+    c.new-staged.result.text.items
     (kept_by c.in_ok-machine.machine) (kept_by c.in-Ok.durable.machine) c.in-Ok.durable.disk c.in-Ok.durable.closed is
     (ok.written ∙ ap recovered_file found) c.new-staged.ensures.none_written
     c.new-staged.ensures.nothing (ap (leads_from (kept_by c.in_ok-machine.machine)) (sym found) ∙ ok.state) ok.leads
