@@ -1,7 +1,8 @@
-/* A counter that outlasts its process: `counter FOLDER [BY]` adds BY to it, where that is given, and prints its total.
+/* A counter that outlasts its process: `counter FOLDER new` makes it, once, and `counter FOLDER [BY]` adds BY to it,
+ * where that is given, and prints its total.
  *
- * It is a group of one node over FOLDER/journal, the same that `lattice node --replicas 1 --journal FOLDER` serves:
- * a crash at any moment takes nothing that was printed. */
+ * It is a group of one node over FOLDER/journal, as `lattice init FOLDER --own 0 --replicas 1` makes it and `lattice
+ * node --own 0 --replicas 1 --journal FOLDER` serves it: a crash at any moment takes nothing that was printed. */
 #define _DEFAULT_SOURCE
 
 #include "lattice.h"
@@ -13,9 +14,11 @@
 #include <stdlib.h>
 #include <string.h>
 #include <sys/file.h>
+#include <sys/stat.h>
 #include <unistd.h>
 
-enum { CAP = 1000000, VISITS = 1, PRIVATE = 0600 };
+/* The first bytes of a journal are fewer than FIRST_ROOM. */
+enum { CAP = 1000000, VISITS = 1, PRIVATE = 0600, FIRST_ROOM = 256 };
 
 /* None are given, so each replica has one vote. No pointer that the library is given may be null, even here. */
 static const uint16_t no_votes[1] = {0};
@@ -24,6 +27,9 @@ struct bytes {
     uint8_t *at;
     size_t len;
 };
+
+static const char *const nothing_here =
+    "nothing here: mount its disk; if it is lost, never run this counter again; a first start is `counter FOLDER new`";
 
 /* Ends the program, which may be started again: the journal has all that was printed. */
 static void stop(const char *what) {
@@ -47,19 +53,50 @@ static void put(int file, struct bytes bytes) {
     }
 }
 
-/* What the journal has; nothing where there is none. */
+/* Takes a folder, for this process alone. */
+static void take(const char *folder) {
+    if (chdir(folder) != 0) stop(folder);
+    int lock = open("lock", O_WRONLY | O_CREAT | O_CLOEXEC, PRIVATE);
+    if (lock < 0 || flock(lock, LOCK_EX | LOCK_NB) != 0) stop("lock");
+}
+
+/* What the journal has. Where there is none, none is begun: it may be that its disk is not mounted. */
 static struct bytes found(void) {
     FILE *file = fopen("journal", "rb");
-    struct bytes all = {room_for(0), 0};
-    if (!file && errno == ENOENT) return all;
-    if (!file || fseek(file, 0, SEEK_END) != 0) stop("journal");
-    all.len = (size_t)ftell(file);
+    if (!file) stop(errno == ENOENT ? nothing_here : "journal");
+    if (fseek(file, 0, SEEK_END) != 0) stop("journal");
+    struct bytes all = {NULL, (size_t)ftell(file)};
     rewind(file);
-    free(all.at);
     all.at = room_for(all.len);
     if (fread(all.at, 1, all.len, file) != all.len) stop("journal");
     fclose(file);
     return all;
+}
+
+/* Puts bytes in the journal's place, on the disk, and answers the file. A crash at any moment leaves these or what was
+ * there before, which may be none. */
+static int replace(struct bytes bytes) {
+    unlink("journal.new");
+    int file = open("journal.new", O_WRONLY | O_CREAT | O_EXCL | O_APPEND | O_CLOEXEC, PRIVATE);
+    if (file < 0) stop("journal.new");
+    put(file, bytes);
+    int here = open(".", O_RDONLY | O_DIRECTORY | O_CLOEXEC);
+    if (fsync(file) != 0 || rename("journal.new", "journal") != 0 || here < 0 || fsync(here) != 0) stop("journal");
+    close(here);
+    return file;
+}
+
+/* Makes the journal of a counter that never was, where none stands, also no empty one. */
+static void make(void) {
+    struct stat there;
+    uint8_t bytes[FIRST_ROOM];
+    struct bytes first = {bytes, 0};
+    if (lstat("journal", &there) == 0) errno = EEXIST;
+    if (errno != ENOENT) stop("journal");
+    errno = 0;
+    if (lattice_first_journal(1, 0, 0, CAP, no_votes, 0, bytes, sizeof bytes, &first.len) != LATTICE_OK)
+        stop("a new journal");
+    close(replace(first));
 }
 
 /* The node's next record; no bytes where it took nothing. */
@@ -73,30 +110,16 @@ static struct bytes record_of(lattice_node *node) {
     return record;
 }
 
-/* Takes the folder, and makes the node of what its journal has. What was read there need not be on the disk yet, if the
- * process that wrote it was killed. So a new file, on the disk, takes the journal's place before the node tells
- * anything. */
-static int start(const char *folder, lattice_node *node) {
+/* Makes the node of what the journal has. What was read there need not be on the disk yet, if the process that wrote it
+ * was killed. So a new file, on the disk, takes the journal's place before the node tells anything. */
+static int start(lattice_node *node) {
     size_t kept, line = 0;
-    if (chdir(folder) != 0) stop(folder);
-    int lock = open("lock", O_WRONLY | O_CREAT | O_CLOEXEC, PRIVATE);
-    if (lock < 0 || flock(lock, LOCK_EX | LOCK_NB) != 0) stop("lock");
     struct bytes journal = found();
     errno = 0;
     if (lattice_node_recover(1, 0, 0, CAP, no_votes, 0, journal.at, journal.len, &kept, &line, node) != LATTICE_OK)
         stop("journal");
-    struct bytes first = record_of(node);
-    unlink("journal.new");
-    int file = open("journal.new", O_WRONLY | O_CREAT | O_EXCL | O_APPEND | O_CLOEXEC, PRIVATE);
-    if (file < 0) stop("journal.new");
-    put(file, (struct bytes){journal.at, kept});
-    put(file, first);
-    int here = open(".", O_RDONLY | O_DIRECTORY | O_CLOEXEC);
-    if (fsync(file) != 0 || rename("journal.new", "journal") != 0 || here < 0 || fsync(here) != 0) stop("journal");
-    close(here);
-    if (first.len > 0) lattice_synced(node);
+    int file = replace((struct bytes){journal.at, kept});
     free(journal.at);
-    free(first.at);
     return file;
 }
 
@@ -114,8 +137,13 @@ int main(int argc, char **words) {
     uint32_t number;
     int64_t total;
     if (argc != 2 && argc != 3) return 2;
+    take(words[1]);
+    if (argc == 3 && strcmp(words[2], "new") == 0) {
+        make();
+        return 0;
+    }
     unsigned long by = argc == 3 ? strtoul(words[2], NULL, 10) : 0;
-    int journal = start(words[1], &node);
+    int journal = start(&node);
     errno = 0;
     if (lattice_add(&node, VISITS, LATTICE_COUNTER) != LATTICE_OK) stop("a counter");
     if (by > UINT32_MAX) stop(words[2]);

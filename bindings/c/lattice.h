@@ -29,6 +29,11 @@
  *   what it had refused. The others go on while they are a majority. The same holds of a node whose
  *   journal was lost, or went back to an earlier state.
  *
+ * - The bytes of lattice_first_journal are for a replica that never was, once, and for a file where
+ *   nothing stands: they come there as a whole, on the disk, or not at all. A file that is missing
+ *   later is no first start, as its disk may not be mounted. So a program makes it only where a
+ *   person tells it to, as counter.c does by `new`.
+ *
  * - Of a node that lattice_node_recover made, the program's file has the bytes that were found, up
  *   to where they were to be kept, and they are on the disk before the node is asked for anything
  *   but its next record. If the process that wrote them was killed, they can be read though they
@@ -55,7 +60,7 @@ extern "C" {
 #endif
 
 /* The version of this interface: lattice_version() answers the library's. */
-#define LATTICE_VERSION 2u
+#define LATTICE_VERSION 3u
 
 /* A handle: one pointer, which is the library's. */
 typedef struct lattice_node {
@@ -154,7 +159,7 @@ enum lattice_status {
     LATTICE_AHEAD = 27,
     /* The node took something that is not on the disk yet: its record is to be written first. */
     LATTICE_UNKEPT = 28,
-    /* The bytes are no journal of this version, or their first line is damaged. */
+    /* There is no byte, the bytes are no journal of this version, or their first line is damaged. */
     LATTICE_NO_JOURNAL = 29,
     /* The journal is that of another replica, or of a group with other replicas, commits, cap or
      * votes.
@@ -209,11 +214,22 @@ uint32_t lattice_version(void);
 uint8_t lattice_node_new(uint8_t replicas, uint8_t own, uint8_t commits, uint32_t cap,
     const uint16_t *votes, size_t votes_len, lattice_node *out);
 
+/* The bytes of the journal that replica `own` of a group begins with, into a buffer, and how many
+ * they are: fewer than 256. They go into a file where no journal stands, on the disk, and then
+ * `lattice_node_recover` plays them. They are for a replica that never was: one that lost its
+ * journal must not begin anew. The numbers are as of `lattice_node_new`.
+ *
+ * In this order: as `lattice_node_new` ends, and LATTICE_SMALL where the buffer has less room than
+ * there are bytes, which are told.
+ */
+uint8_t lattice_first_journal(uint8_t replicas, uint8_t own, uint8_t commits, uint32_t cap,
+    const uint16_t *votes, size_t votes_len, uint8_t *buffer, size_t buffer_room, size_t *len);
+
 /* Makes the same replica of the same group as before of what was found in its journal, and puts it
- * into a place, which then is a handle. No byte at all is a new journal. Told is how many of the
- * bytes the journal is to keep: behind them stands what a crash left of a record, which is to be
- * cut off, on the disk, before anything is put behind. Objects are added anew, and all updates are
- * handed over anew.
+ * into a place, which then is a handle. No byte at all is no journal: the first bytes of a new one
+ * are `lattice_first_journal`'s. Told is how many of the bytes the journal is to keep: behind them
+ * stands what a crash left of a record, which is to be cut off, on the disk, before anything is put
+ * behind. Objects are added anew, and all updates are handed over anew.
  *
  * What was found counts as kept, and the node may tell at once what it leads to. But what can be
  * read from a file need not be on the disk yet, if the process that wrote it was killed before its

@@ -21,7 +21,9 @@
         }                                                                   \
     } while (0)
 
-enum { NODES = 3, COUNTER = 1, REGISTER = 2, SET = 3, OWN = 4, LINE_ROOM = 65536, OWN_ROOM = 248, FILE_ROOM = 65536 };
+enum { NODES = 3, COUNTER = 1, REGISTER = 2, SET = 3, OWN = 4 };
+/* The first bytes of a journal are fewer than FIRST_ROOM. */
+enum { LINE_ROOM = 65536, OWN_ROOM = 248, FILE_ROOM = 65536, FIRST_ROOM = 256 };
 
 /* The allocations of this thread that are still let through: below 0 all of them. */
 static _Thread_local long allocations_left = -1;
@@ -636,7 +638,8 @@ static void test_memory(void) {
     CHECK(refused > 20 && received > 0);
 }
 
-/* A node by its journal: what is behind the bytes that are to be kept is cut, and objects are added anew. */
+/* A node by its journal: what is behind the bytes that are to be kept is cut, and objects are added anew. There is no
+ * record of that. */
 static uint8_t recover(lattice_node *node, uint8_t own, struct file *file, size_t *line) {
     size_t kept = SIZE_MAX;
     uint8_t status = lattice_node_recover(NODES, own, 2, 1000, no_votes, 0, file->bytes, file->len, &kept, line, node);
@@ -644,7 +647,7 @@ static uint8_t recover(lattice_node *node, uint8_t own, struct file *file, size_
         CHECK(kept <= file->len);
         file->len = kept;
         add_objects(node);
-        keep(node, file);
+        CHECK(!keep(node, file));
     }
     return status;
 }
@@ -686,15 +689,36 @@ static void check_record(lattice_node *node, struct file *file) {
     file->len += len;
 }
 
-/* A new journal, and what is told before a sync and after it; answers how long its head is. */
+/* The first bytes of a journal, which are the same each time: they go whole into a buffer, or not at all. */
+static void check_first(struct file *file) {
+    static const uint16_t too_many[3] = {1, 1001, 1};
+    uint8_t first[FIRST_ROOM], *bytes = file->bytes;
+    size_t len = 7, again = 0;
+    bytes[0] = 7;
+    CHECK(lattice_first_journal(9, 9, 2, 1000, no_votes, 0, bytes, 0, &len) == LATTICE_BAD_GROUP);
+    CHECK(lattice_first_journal(NODES, 0, 2, 1000, too_many, 3, bytes, 0, &len) == LATTICE_BAD_GROUP);
+    CHECK(lattice_first_journal(NODES, NODES, 2, 1000, no_votes, 0, bytes, 0, &len) == LATTICE_NO_REPLICA && len == 7);
+    allocations_left = 0;
+    CHECK(lattice_first_journal(NODES, 0, 2, 1000, no_votes, 0, bytes, FILE_ROOM, &len) == LATTICE_MEMORY && len == 7);
+    allocations_left = -1;
+    CHECK(lattice_first_journal(NODES, 0, 2, 1000, no_votes, 0, bytes, 0, &len) == LATTICE_SMALL && len < FIRST_ROOM);
+    CHECK(lattice_first_journal(NODES, 0, 2, 1000, no_votes, 0, bytes, len - 1, &again) == LATTICE_SMALL);
+    CHECK(again == len && bytes[0] == 7);
+    CHECK(lattice_first_journal(NODES, 0, 2, 1000, no_votes, 0, bytes, len, &file->len) == LATTICE_OK);
+    CHECK(lattice_first_journal(NODES, 0, 2, 1000, no_votes, 0, first, sizeof first, &again) == LATTICE_OK);
+    CHECK(file->len == len && again == len && memcmp(first, bytes, len) == 0 && bytes[len - 1] == '\n');
+}
+
+/* A new journal, and what is told before a sync and after it; answers how long its head is. No byte is no journal. */
 static size_t check_new(lattice_node *node, struct file *file) {
-    size_t kept = 7, line = 7, head = 0;
+    size_t kept = 7, line = 7, head = file->len;
     uint32_t number = 0;
-    CHECK(lattice_node_recover(NODES, 0, 2, 1000, no_votes, 0, file->bytes, 0, &kept, &line, node) == LATTICE_OK);
-    CHECK(kept == 0);
-    check_record(node, file);
-    head = file->len;
-    CHECK(lattice_synced(node) == LATTICE_OK && lattice_synced(node) == LATTICE_NONE && !keep(node, file));
+    uint8_t *bytes = file->bytes;
+    CHECK(lattice_node_recover(NODES, 0, 2, 1000, no_votes, 0, bytes, 0, &kept, &line, node) == LATTICE_NO_JOURNAL);
+    CHECK(kept == 7 && line == 7 && node->at == NULL);
+    CHECK(lattice_node_recover(NODES, 0, 2, 1000, no_votes, 0, bytes, head, &kept, &line, node) == LATTICE_OK);
+    CHECK(kept == head && line == 7);
+    CHECK(!keep(node, file) && lattice_synced(node) == LATTICE_NONE && submitted(node) == 0);
     add_objects(node);
     CHECK(!keep(node, file) && submitted(node) == 0);
     CHECK(lattice_inc(node, COUNTER, 5, &number) == LATTICE_OK && number == 1);
@@ -702,7 +726,8 @@ static size_t check_new(lattice_node *node, struct file *file) {
     CHECK(lattice_synced(node) == LATTICE_NONE);
     check_record(node, file);
     check_unkept(node);
-    CHECK(lattice_synced(node) == LATTICE_OK && submitted(node) == 1 && !keep(node, file));
+    CHECK(lattice_synced(node) == LATTICE_OK && lattice_synced(node) == LATTICE_NONE);
+    CHECK(submitted(node) == 1 && !keep(node, file));
     return head;
 }
 
@@ -763,7 +788,8 @@ static void check_others(const struct file *file, size_t head) {
     CHECK(line == 2 && kept == 7 && node.at == NULL);
 }
 
-/* Memory that is refused, at each allocation in turn: the node is made, or the record handed out, the next time. */
+/* Memory that is refused, at each allocation in turn: the first bytes are told, the node made, or the record handed out,
+ * the next time. */
 static void check_journal_memory(const struct file *file) {
     static struct file copy;
     int refused = 0;
@@ -771,9 +797,12 @@ static void check_journal_memory(const struct file *file) {
         lattice_node node = {NULL};
         size_t line = 7, kept = 7, len = 0;
         uint32_t number = 0;
+        uint8_t first[FIRST_ROOM];
         was_refused = refused;
         copy = *file;
         allocations_left = allocation;
+        UNTIL_MEMORY(lattice_first_journal(3, 0, 2, 1000, no_votes, 0, first, sizeof first, &len));
+        CHECK(len > 0 && memcmp(first, copy.bytes, len) == 0);
         UNTIL_MEMORY(lattice_node_recover(3, 0, 2, 1000, no_votes, 0, copy.bytes, copy.len, &kept, &line, &node));
         UNTIL_MEMORY(lattice_inc(&node, COUNTER, 5, &number));
         UNTIL_MEMORY(lattice_next_record(&node, copy.bytes + copy.len, FILE_ROOM - copy.len, &len));
@@ -797,7 +826,8 @@ static void test_journal(void) {
     CHECK(lattice_node_new(NODES, 0, 2, 1000, no_votes, 0, &node) == LATTICE_OK);
     CHECK(lattice_next_record(&node, buffer, 1, &len) == LATTICE_NONE && lattice_synced(&node) == LATTICE_NONE);
     lattice_node_free(node);
-    file.len = 0;
+    node.at = NULL;
+    check_first(&file);
     size_t head = check_new(&node, &file), told = file.len;
     check_calls(&node, &file);
     lattice_node_free(node);
@@ -822,7 +852,7 @@ static void run_lives(uint64_t seed) {
     int64_t total = 0;
     begin(&group, seed);
     lattice_node_free(group.nodes[0]);
-    file.len = 0;
+    CHECK(lattice_first_journal(NODES, 0, 2, 1000, no_votes, 0, file.bytes, FILE_ROOM, &file.len) == LATTICE_OK);
     group.journal = &file;
     CHECK(recover(&group.nodes[0], 0, &file, &line) == LATTICE_OK);
     for (int64_t made = 0; made < 30;) {

@@ -163,6 +163,21 @@ def damage_cut(file: bytes, keep: int) -> tuple[bytes, int]:
 
 
 @dataclass
+class Beginner:
+    """Begins a journal anew where no byte of one is found."""
+
+    player: Plays
+
+    def play(self, name: str, arguments: Arguments) -> Answer:
+        answer = self.player.play(name, arguments)
+        if name != "node_recover" or arguments[5] or NAMES[answer.result] != "NO_JOURNAL":
+            return answer
+        first = self.player.play("first_journal", (*arguments[:5], 255)).outs[0]
+        answer = self.player.play(name, (*arguments[:5], first, arguments[6]))
+        return Answer(answer.result, (0, answer.outs[1]))
+
+
+@dataclass
 class Forgetter:
     """Forgets the last record at a start, and hands further ones over with the links that they have to have: only what
     the node then tells is not what it told before."""

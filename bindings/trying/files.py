@@ -127,8 +127,6 @@ def unplayed_line(text: bytes, groups: Sequence[bytes]) -> int | None:
 
 def outcome(text: bytes, file: bytes) -> Outcome:
     """How a start of a node, whose head says this, on a file ends."""
-    if not file:
-        return Outcome("OK", keep=0)
     found = read_file(file)
     if found is None:
         return Outcome("NO_JOURNAL")

@@ -26,9 +26,8 @@ class Kept:
 class Journal:
     """The file of a node's program, and what is known of the records to come."""
 
-    head: bytes
-    # What is on the disk, and what of that was told by the program.
-    disk: bytes = b""
+    # What is on the disk, at first what each journal begins with, and what of that was told by the program.
+    disk: bytes
     kept: Kept = Kept()
     # How long the record is that was made, where that was told, and what it was when it was handed over.
     length: int | None = None
@@ -43,15 +42,10 @@ class Journal:
     may_have_own: bool = False
     has_some: bool = False
 
-    def __post_init__(self) -> None:
-        # A new journal's first record is its head.
-        self.restart(self.disk, self.kept)
-
     def restart(self, disk: bytes, kept: Kept) -> None:
         """A node was made of these bytes."""
         self.disk, self.kept, self.kept_then = disk, kept, kept
-        self.length = None if disk else len(self.head)
-        self.record, self.is_handed = None, False
+        self.length, self.record, self.is_handed = None, None, False
         self.made.clear()
         self.all_is_kept()
 

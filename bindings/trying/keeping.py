@@ -87,9 +87,6 @@ def synced(member: Member, _arguments: Arguments, answer: Answer) -> None:
 
 def check_record(member: Member, journal: Journal, record: bytes) -> None:
     """A record is that of the lines of what was taken, behind what is on the disk."""
-    if not journal.disk:
-        require(record == journal.head, "the head {!r}, not {!r}", journal.head, record)
-        return
     group = record[: -len(files.last_line(record)) - 1]
     require(record == files.with_record(files.last_line(journal.disk), group), "a group and its record: {!r}", record)
     require(bool(group), "lines in a record: {!r}", record)

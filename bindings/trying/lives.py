@@ -22,8 +22,9 @@ def head_text(arguments: Arguments) -> bytes:
     return files.head_text(replicas, own, commits, cap, votes)
 
 
-def new_journal(arguments: Arguments) -> Journal:
-    return Journal(files.head_line(head_text(arguments)) + b"\n")
+def first_journal(arguments: Arguments) -> bytes:
+    """The bytes that the journal of a node begins with, of which these are the numbers."""
+    return files.head_line(head_text(arguments)) + b"\n"
 
 
 def outcome(arguments: Arguments, file: bytes) -> files.Outcome:
@@ -61,12 +62,10 @@ def spoilt(draw: Draw, record: bytes) -> bytes:
 
 
 def left_behind(draw: Draw, journal: Journal) -> bytes:
-    """What a crash leaves behind what is on the disk. A new journal is put in its place with its head."""
+    """What a crash leaves behind what is on the disk."""
     record = journal.record
     if record is None:
         return b""
-    if not journal.disk:
-        return draw.one_of([b"", record])
     return draw.one_of([front, front, blotted, blotted, spoilt])(draw, record)
 
 
@@ -168,12 +167,17 @@ def with_group_elsewhere(draw: Draw, file: bytes) -> bytes:
     return file + draw.one_of([b"", b"torn\n", b"~ torn"]) + files.with_record(elsewhere, b"submit 0 1 inc 5\n")
 
 
+def emptied(_draw: Draw, _file: bytes) -> bytes:
+    """Nothing is there: no node begins anew."""
+    return b""
+
+
 def noise(draw: Draw, _file: bytes) -> bytes:
     return draw.random.randbytes(draw.below(100)) + draw.one_of([b"", b"\n"])
 
 
 WAYS: tuple[Callable[[Draw, bytes], bytes], ...] = (
-    flipped, cut, without_some, lines_moved, forged, with_group_elsewhere, noise,
+    flipped, cut, without_some, lines_moved, forged, with_group_elsewhere, emptied, noise,
 )
 
 
@@ -193,7 +197,7 @@ def other_numbers(draw: Draw, member: Member) -> Arguments:
 def try_damaged(sequence: Sequence, member: Member, journal: Journal) -> None:
     """Starts on a copy that no crash leaves, or as somebody else. Where that makes a node, it has what its file has."""
     draw, arguments = sequence.draw, starting.start(member.group.config, member.own)
-    file = journal.disk or journal.head
+    file = journal.disk
     if draw.chance(20):
         arguments = other_numbers(draw, member)
     elif draw.chance(40):
@@ -203,7 +207,6 @@ def try_damaged(sequence: Sequence, member: Member, journal: Journal) -> None:
     slot, keep = sequence.recover_node(arguments, file)
     if slot is None:
         return
-    if keep:
-        submitted = sum(line.startswith(b"submit ") for line in file[:keep].split(b"\n"))
-        sequence.check_submitted(slot, submitted)
+    submitted = sum(line.startswith(b"submit ") for line in file[:keep].split(b"\n"))
+    sequence.check_submitted(slot, submitted)
     sequence.free_slot(slot)

@@ -7,6 +7,7 @@ from dataclasses import dataclass, field
 from . import asking, keeping, lives, mailing, starting, submitting
 from .drawing import Draw
 from .groups import Group, Member
+from .journals import Journal
 from .playing import UNTOUCHED, Arguments, Plays, Wrong
 from .reading import MAX_TAGS
 from .rules import RULES, STATUSES, expect
@@ -14,7 +15,7 @@ from .rules import RULES, STATUSES, expect
 # The modules whose rules are drawn from.
 MODULES = (asking, keeping, mailing, submitting)
 # What is called beside a node's rules.
-BESIDE = {"version", "node_new", "node_recover", "node_free"}
+BESIDE = {"version", "node_new", "first_journal", "node_recover", "node_free"}
 ROUNDS = 200
 # For so many rounds one is away, so that it lacks what many letters told it.
 AWAY_ROUNDS = 40
@@ -78,6 +79,22 @@ class Sequence:
         self.slots += 1
         return self.slots - 1
 
+    def first_journal(self, arguments: Arguments) -> bytes:
+        """The bytes that a journal begins with, where the model says so; none, where the numbers make no node. They go
+        whole into a buffer, or not at all."""
+        status = starting.status_of(arguments)
+        first = lives.first_journal(arguments) if status == "OK" else b""
+        for room in self.draw.one_of([(255,), (len(first),), (0, 255), (max(len(first) - 1, 0), 1000)]):
+            self.noted("first_journal", (*arguments, room))
+            answer = self.player.play("first_journal", (*arguments, room))
+            if status != "OK":
+                expect(answer, status, b"", UNTOUCHED["usize"])
+            elif room < len(first):
+                expect(answer, "SMALL", b"", len(first))
+            else:
+                expect(answer, "OK", first, len(first))
+        return first
+
     def recover_node(self, arguments: Arguments, found: bytes) -> tuple[int | None, int]:
         """Makes a node of what was found in a journal, where the model says so: its slot, and how much is kept."""
         self.noted("node_recover", (*arguments, found))
@@ -122,11 +139,12 @@ class Sequence:
             self.add_objects(member)
 
     def started(self, group: Group, own: int, has_journal: bool) -> Member:
-        """A node of a group, with a journal that has no byte yet, or without one."""
+        """A node of a group, with a journal that was made for it, or without one."""
         arguments = starting.start(group.config, own)
-        slot = self.recover_node(arguments, b"")[0] if has_journal else self.start_node(arguments)
+        journal = Journal(self.first_journal(arguments)) if has_journal else None
+        slot = self.recover_node(arguments, journal.disk)[0] if journal else self.start_node(arguments)
         assert slot is not None
-        return Member(group, own, slot, journal=lives.new_journal(arguments) if has_journal else None)
+        return Member(group, own, slot, journal=journal)
 
     def add_objects(self, member: Member) -> None:
         for number, kind in ((1, 0), (2, 1), (3, 2)):
@@ -134,12 +152,14 @@ class Sequence:
                 self.call(member, "add", (number, kind))
 
     def bad_start(self) -> None:
-        """Tries to make a node with any numbers, and frees it at once."""
+        """Tries to make a node with any numbers, and frees it at once, or a journal."""
         arguments = starting.draw_bad_start(self.draw)
         if self.draw.chance(50):
             slot = self.start_node(arguments)
         else:
-            slot, _ = self.recover_node(arguments, self.draw.one_of([b"", b"\n", b"lattice 2", self.draw.own_bytes()]))
+            first = self.first_journal(arguments)
+            found = self.draw.one_of([first, b"", b"\n", b"lattice 2", self.draw.own_bytes()])
+            slot, _ = self.recover_node(arguments, found)
         if slot is not None:
             self.free_slot(slot)
 

@@ -1,9 +1,10 @@
 """Three nodes in three processes, over TCP on this machine: `python3 examples/three_processes.py` in the package's
 folder.
 
-Each node has a journal. One of them is killed twice and started again at once, and comes back by its journal. All
-queues are bounded, and what finds no room is dropped, as a network may lose it: a timer has it sent again. Connections
-are cut now and then, and made anew. Node 2 is slow: the others agree without it, and it catches up.
+Each node has a journal, which is made once, before any process has it. One of them is killed twice and started again
+at once, and comes back by its journal. All queues are bounded, and what finds no room is dropped, as a network may lose
+it: a timer has it sent again. Connections are cut now and then, and made anew. Node 2 is slow: the others agree without
+it, and it catches up.
 """
 from __future__ import annotations
 
@@ -60,7 +61,7 @@ class Host:
     """A node with its connections."""
 
     def __init__(self, own: int, folder: str) -> None:
-        """The node by its journal, with its object, which is in no journal."""
+        """The node by its journal, which has to be there, with its object, which is in no journal."""
         self.own, self.node = own, Durable(NODES, own, folder)
         self.node.add(VISITS, Kind.COUNTER)
         print(f"node {own}: it has submitted {self.node.submitted()}", file=sys.stderr)
@@ -202,6 +203,7 @@ async def totals(nodes: list[Process], folder: Path) -> list[int]:
 async def run_all(folder: Path) -> None:
     for own in range(NODES):
         (folder / str(own)).mkdir()
+        Durable.create(NODES, own, folder / str(own)).close()
     nodes = [await Process.start(own, 0, folder) for own in range(NODES)]
     try:
         found = await asyncio.wait_for(totals(nodes, folder), PATIENCE)

@@ -15,11 +15,12 @@ The library below is proved in Rattle; this package is not. It is tested only.
 **A `Node` keeps nothing on a disk.** Once one was closed or its process ended, no node may ever come back under its
 number in its group: it would give an id to two updates, or accept what it had refused. The others go on while they
 are a majority. The same holds of a `Durable` whose journal is lost or damaged, and no older copy may be put in the
-journal's place. Who wants as many replicas again needs a new group: it starts empty, and a program submits into it what
-it wants to take over from a view of the old one. """
+journal's place: `Durable(..)` makes no new one, and `Durable.create` is called once. Who wants as many replicas again
+needs a new group: it starts empty, and a program submits into it what it wants to take over from a view of the old
+one. """
 from __future__ import annotations
 
-from .durable import Batch, ClosedError, Durable, LockedError, Pending
+from .durable import Batch, ClosedError, Durable, JournalMissingError, JournalThereError, LockedError, Pending
 from .errors import (
     AheadError,
     AlreadyProposedError,
@@ -76,6 +77,8 @@ __all__ = [
     "ForeignError",
     "FullError",
     "GapError",
+    "JournalMissingError",
+    "JournalThereError",
     "Kind",
     "LatticeError",
     "LockedError",

@@ -21,6 +21,10 @@
   may ever come back under its number in its group: it would give an id to two updates, or accept
   what it had refused. The others go on while they are a majority. The same holds of a node whose
   journal was lost, or went back to an earlier state.
+- The bytes of lattice_first_journal are for a replica that never was, once, and for a file where
+  nothing stands: they come there as a whole, on the disk, or not at all. A file that is missing
+  later is no first start, as its disk may not be mounted. So a program makes it only where a person
+  tells it to, as counter.c does by `new`.
 - Of a node that lattice_node_recover made, the program's file has the bytes that were found, up to
   where they were to be kept, and they are on the disk before the node is asked for anything but its
   next record. If the process that wrote them was killed, they can be read though they are not on
@@ -35,7 +39,7 @@ import ctypes
 from ctypes import POINTER, c_int64, c_size_t, c_uint8, c_uint16, c_uint32, c_uint64, c_void_p
 
 # The version of the interface.
-VERSION = 2
+VERSION = 3
 
 # The call was done.
 OK = 0
@@ -97,7 +101,7 @@ STALE = 26
 AHEAD = 27
 # The node took something that is not on the disk yet: its record is to be written first.
 UNKEPT = 28
-# The bytes are no journal of this version, or their first line is damaged.
+# There is no byte, the bytes are no journal of this version, or their first line is damaged.
 NO_JOURNAL = 29
 # The journal is that of another replica, or of a group with other replicas, commits, cap or votes.
 OTHER_JOURNAL = 30
@@ -173,11 +177,29 @@ CALLS = [
     # In this order: BAD_GROUP where one of these is out of its range; NO_REPLICA; MEMORY. Then the
     # place is as before.
     ("lattice_node_new", c_uint8, [c_uint8, c_uint8, c_uint8, c_uint32, POINTER(c_uint16), c_size_t, POINTER(Node)]),
+    # The bytes of the journal that replica `own` of a group begins with, into a buffer, and how
+    # many they are: fewer than 256. They go into a file where no journal stands, on the disk, and
+    # then `lattice_node_recover` plays them. They are for a replica that never was: one that lost
+    # its journal must not begin anew. The numbers are as of `lattice_node_new`.
+    #
+    # In this order: as `lattice_node_new` ends, and SMALL where the buffer has less room than there
+    # are bytes, which are told.
+    ("lattice_first_journal", c_uint8, [
+        c_uint8,
+        c_uint8,
+        c_uint8,
+        c_uint32,
+        POINTER(c_uint16),
+        c_size_t,
+        POINTER(c_uint8),
+        c_size_t,
+        POINTER(c_size_t),
+    ]),
     # Makes the same replica of the same group as before of what was found in its journal, and puts
-    # it into a place, which then is a handle. No byte at all is a new journal. Told is how many of
-    # the bytes the journal is to keep: behind them stands what a crash left of a record, which is
-    # to be cut off, on the disk, before anything is put behind. Objects are added anew, and all
-    # updates are handed over anew.
+    # it into a place, which then is a handle. No byte at all is no journal: the first bytes of a
+    # new one are `lattice_first_journal`'s. Told is how many of the bytes the journal is to keep:
+    # behind them stands what a crash left of a record, which is to be cut off, on the disk, before
+    # anything is put behind. Objects are added anew, and all updates are handed over anew.
     #
     # What was found counts as kept, and the node may tell at once what it leads to. But what can be
     # read from a file need not be on the disk yet, if the process that wrote it was killed before

@@ -19,12 +19,30 @@ from .values import copied, votes_of, within
 
 # For how long a record there is room at first.
 RECORD_BYTES = 4096
+# More than the bytes that a journal begins with.
+FIRST_BYTES = 256
 
 
 class LockedError(LatticeError):
     """This process or another has the folder."""
 
     text = "this process or another has the folder"
+
+
+class JournalMissingError(LatticeError):
+    """No `journal` is in the folder to be opened, and none was made: its disk may not be mounted. If it is lost, the
+    replica must never run again. A first start is `Durable.create`."""
+
+    text = (
+        "nothing here: mount its disk; if it is lost, never run this replica again; a first start is `Durable.create`"
+    )
+
+
+class JournalThereError(LatticeError):
+    """A `journal` is in the folder where one was to be made, though perhaps an empty one. It is as before: `Durable`
+    opens it."""
+
+    text = "there is a journal: a journal is made once, and `Durable` opens it"
 
 
 class ClosedError(LatticeError):
@@ -79,14 +97,16 @@ class Durable(Replica):
     calls is `batch`. Where a write or a sync fails, the call raises an `OSError`, and every further one
     `ClosedError`: the last calls are in the journal or not, and the node has to be opened anew.
 
-    The journal is a file in a folder, which is the same as a folder of `lattice node --journal`: each of the two may
-    go on where the other ended. It has neither the objects nor what `next_learnt` handed out: after each start the
-    objects are added again, and all that the view has is handed out again, so that an object of one's own is built
-    anew.
+    The journal is a file in a folder, which is the same as a folder of `lattice init` and `lattice node --journal`:
+    each of the two may go on where the other ended. It has neither the objects nor what `next_learnt` handed out:
+    after each start the objects are added again, and all that the view has is handed out again, so that an object of
+    one's own is built anew.
 
     **A node whose journal is lost, or is older than the node, must never come back under its number.** It would give
-    an id to two updates, or accept what it had refused. So a copy of a journal is never started, but where the folder
-    moves, and is then used nowhere else. """
+    an id to two updates, or accept what it had refused. So a journal is made once, by `create`, where a person says
+    that the replica never was. Every other start is `Durable(..)`, which opens and makes none: a folder may be empty
+    because its disk is not mounted. And a copy of a journal is never started, but where the folder moves, and is then
+    used nowhere else. """
 
     def __init__(
         self,
@@ -98,29 +118,52 @@ class Durable(Replica):
         cap: int = 1_000_000,
         votes: Sequence[int] = (),
     ) -> None:
-        """The replica by the journal in a folder, which has to exist: where it has no journal, or an empty one, a
-        replica in which nothing has happened. What a crash left of a record goes. The numbers are as of a `Node`.
+        """Opens the journal of a folder, which was made once, by `create` or `lattice init`: the replica by it. What a
+        crash left of a record goes. The numbers are as of a `Node`.
 
-        `LockedError` comes where this process or another has the folder, and `OSError` where there is no folder, or a
-        file can't be opened, read or written. Else `BadGroupError`, `NoReplicaError`, `NoJournalError`,
-        `OtherJournalError`, `DamagedError`, with its `line`, or `OutOfMemoryError`, and then the journal is as before.
+        `JournalMissingError` comes where no journal is in the folder, and none is made, `LockedError` where this
+        process or another has the folder, and `OSError` where there is no folder, or a file can't be opened, read or
+        written. Else `BadGroupError`, `NoReplicaError`, `NoJournalError`, as of an empty file, `OtherJournalError`,
+        `DamagedError`, with its `line`, or `OutOfMemoryError`, and then the journal is as before.
         """
-        counts = votes_of(votes)
-        numbers = within(replicas, 8, "replicas"), within(own, 8, "own"), within(commits, 8, "commits")
-        words = *numbers, within(cap, 32, "cap"), counts, len(votes)
+        self._start(words_of(replicas, own, commits, cap, votes), Path(path), is_first=False)
+
+    @classmethod
+    def create(
+        cls,
+        replicas: int,
+        own: int,
+        path: str | os.PathLike[str],
+        *,
+        commits: int = 0,
+        cap: int = 1_000_000,
+        votes: Sequence[int] = (),
+    ) -> Durable:
+        """Makes the journal of a folder where none stands, and opens it: a replica in which nothing has happened. It is
+        for the first start of a replica that never was, once: one whose journal is lost must not begin anew. The folder
+        has to exist, and the numbers are as of a `Node`.
+
+        `JournalThereError` comes where anything stands under the name `journal`, also an empty file, and `LockedError`
+        where this process or another has the folder. Else `BadGroupError`, `NoReplicaError` or `OutOfMemoryError`, and
+        no journal was made. A crash, or an `OSError`, leaves no journal, and this may be called again, or the whole,
+        which `Durable(..)` opens.
+        """
+        node = cls.__new__(cls)
+        node._start(words_of(replicas, own, commits, cap, votes), Path(path), is_first=True)
+        return node
+
+    def _start(self, words: tuple[Any, ...], path: Path, is_first: bool) -> None:
+        """Makes the node by what was found in its journal, or is to be the first there. A new file comes in the
+        journal's place, on the disk: what was found need not be there yet."""
         try:
-            self._folder = Folder(Path(path))
+            self._folder = Folder(path)
         except BlockingIOError:
             raise LockedError from None
         try:
-            found = self._folder.read()
+            found = first_for(self._folder, path, words) if is_first else found_in(self._folder, path)
             self._handle, keep = recovered(found, words)
             self._record = (ctypes.c_uint8 * RECORD_BYTES)()
-            # A new journal's first record is its head.
-            first = self._next_record()
-            self._folder.replace(found[:keep] + first)
-            if first:
-                check(LIBRARY.lattice_synced(self._handle.place))
+            self._folder.replace(found[:keep])
         except BaseException:
             self.close()
             raise
@@ -192,6 +235,30 @@ class Durable(Replica):
         if record:
             self._folder.append(record)
             check(LIBRARY.lattice_synced(self._handle.place))
+
+
+def words_of(replicas: int, own: int, commits: int, cap: int, votes: Sequence[int]) -> tuple[Any, ...]:
+    """The numbers of a group, and of a replica of it, as the library takes them."""
+    counts = votes_of(votes)
+    numbers = within(replicas, 8, "replicas"), within(own, 8, "own"), within(commits, 8, "commits")
+    return *numbers, within(cap, 32, "cap"), counts, len(votes)
+
+
+def found_in(folder: Folder, path: Path) -> bytes:
+    """The bytes of a folder's journal."""
+    try:
+        return folder.read()
+    except FileNotFoundError:
+        raise JournalMissingError(f"{path}: {JournalMissingError.text}") from None
+
+
+def first_for(folder: Folder, path: Path, words: tuple[Any, ...]) -> bytes:
+    """The bytes of the journal that a node begins with, where its folder has none."""
+    if folder.has_journal():
+        raise JournalThereError(f"{path}: {JournalThereError.text}")
+    first, length = (ctypes.c_uint8 * FIRST_BYTES)(), ctypes.c_size_t()
+    check(LIBRARY.lattice_first_journal(*words, first, len(first), length))
+    return bytes(memoryview(first)[: length.value])
 
 
 def recovered(found: bytes, words: tuple[Any, ...]) -> tuple[Handle, int]:

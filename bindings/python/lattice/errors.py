@@ -206,10 +206,11 @@ class UnkeptError(LatticeError):
 
 
 class NoJournalError(LatticeError):
-    """The bytes are no journal of this version, or their first line is damaged."""
+    """There is no byte, the bytes are no journal of this version, or their first line is
+    damaged."""
 
     status = 29
-    text = "the bytes are no journal of this version, or their first line is damaged"
+    text = "there is no byte, the bytes are no journal of this version, or their first line is damaged"
 
 
 class OtherJournalError(LatticeError):

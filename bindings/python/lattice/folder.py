@@ -27,15 +27,17 @@ class Folder:
             os.close(self._lock)
             raise
 
+    def has_journal(self) -> bool:
+        """Whether anything stands under the journal's name."""
+        return os.path.lexists(self._path / "journal")
+
     def read(self) -> bytes:
-        """The journal's bytes: none where there is no journal."""
-        try:
-            return (self._path / "journal").read_bytes()
-        except FileNotFoundError:
-            return b""
+        """The journal's bytes; `FileNotFoundError` comes where there is no journal."""
+        return (self._path / "journal").read_bytes()
 
     def replace(self, data: bytes) -> None:
-        """Puts bytes in the journal's place, on the disk. After a crash at any moment it has those before or these."""
+        """Puts bytes in the journal's place, on the disk. A crash at any moment leaves these or what was there before,
+        which may be none."""
         journal, new = self._path / "journal", self._path / "journal.new"
         new.unlink(missing_ok=True)
         self._journal = os.open(new, os.O_WRONLY | os.O_CREAT | os.O_EXCL | os.O_APPEND | os.O_CLOEXEC, PRIVATE)

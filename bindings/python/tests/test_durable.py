@@ -34,11 +34,29 @@ with Durable(1, 0, sys.argv[1], commits=1) as node:
 """
 
 
-def opened(folder: Path, replicas: int = 1, own: int = 0) -> Durable:
-    node = Durable(replicas, own, folder, commits=1)
+def with_objects(node: Durable) -> Durable:
     node.add(COUNTER, Kind.COUNTER)
     node.add(SET, Kind.OR_SET)
     return node
+
+
+def created(folder: Path, replicas: int = 1, own: int = 0) -> Durable:
+    return with_objects(Durable.create(replicas, own, folder, commits=1))
+
+
+def opened(folder: Path, replicas: int = 1, own: int = 0) -> Durable:
+    return with_objects(Durable(replicas, own, folder, commits=1))
+
+
+def noted(name: str, made: list[str]) -> Callable[..., object]:
+    """A call of `os` that is noted and made."""
+    call: Callable[..., object] = getattr(os, name)
+
+    def note(*words: object) -> object:
+        made.append(name)
+        return call(*words)
+
+    return note
 
 
 class InFolder(unittest.TestCase):
@@ -56,7 +74,101 @@ class InFolder(unittest.TestCase):
         (self.folder / "journal").write_bytes(data)
 
 
-class Lives(InFolder):
+class WithJournal(InFolder):
+    """Tests whose folder has the journal of a node that has taken nothing."""
+
+    def setUp(self) -> None:
+        super().setUp()
+        created(self.folder).close()
+
+
+class Firsts(InFolder):
+    def names(self) -> list[str]:
+        return sorted(it.name for it in self.folder.iterdir())
+
+    def test_a_start_makes_no_journal(self) -> None:
+        told = "nothing here: mount its disk; if it is lost, never run this replica again; a first start is"
+        for _ in range(2):
+            with self.assertRaises(lattice.JournalMissingError) as raised:
+                opened(self.folder)
+            self.assertEqual(str(raised.exception), f"{self.folder}: {told} `Durable.create`")
+            self.assertEqual(self.names(), ["lock"])
+        created(self.folder).close()
+        opened(self.folder).close()
+
+    def test_a_journal_is_made_once(self) -> None:
+        with created(self.folder) as node:
+            first = self.journal()
+            with self.assertRaises(lattice.LockedError):
+                created(self.folder)
+            node.inc(COUNTER, 5)
+        self.assertRegex(first, rb"\Alattice 2 replica 0 of 1 votes 1 commits 1 cap 1000000 [0-9a-f]{16}\n\Z")
+        whole = self.journal()
+        for data in (b"", b"hello", first, whole):
+            self.give(data)
+            with self.assertRaisesRegex(lattice.JournalThereError, f"^{self.folder}: there is a journal"):
+                created(self.folder)
+            self.assertEqual((self.journal(), self.names()), (data, ["journal", "lock"]))
+        with opened(self.folder) as node:
+            self.assertEqual(node.total(COUNTER), 5)
+
+    def test_a_node_in_memory_has_no_journal(self) -> None:
+        with Node(1, 0) as node:
+            node.inc(COUNTER)
+            self.assertEqual(node.submitted(), 1)
+        self.assertEqual(self.names(), [])
+
+    def test_an_empty_journal_is_none(self) -> None:
+        self.give(b"")
+        with self.assertRaises(lattice.NoJournalError):
+            opened(self.folder)
+        self.assertEqual(self.journal(), b"")
+
+    def test_a_link_to_nowhere_is_a_journal_whose_disk_is_not_there(self) -> None:
+        (self.folder / "journal").symlink_to(self.folder / "elsewhere")
+        with self.assertRaises(lattice.JournalMissingError):
+            opened(self.folder)
+        with self.assertRaises(lattice.JournalThereError):
+            created(self.folder)
+        self.assertEqual(self.names(), ["journal", "lock"])
+
+    def test_what_is_refused_makes_no_journal(self) -> None:
+        calls: list[tuple[Callable[[], object], type[Exception]]] = [
+            (lambda: Durable.create(9, 0, self.folder), lattice.BadGroupError),
+            (lambda: Durable.create(3, 0, self.folder, votes=[1, 2]), lattice.BadGroupError),
+            (lambda: Durable.create(3, 3, self.folder), lattice.NoReplicaError),
+            (lambda: Durable.create(300, 0, self.folder), ValueError),
+        ]
+        for call, error in calls:
+            with self.assertRaises(error):
+                call()
+            self.assertIn(self.names(), ([], ["lock"]))
+
+    def test_a_failure_leaves_none_or_the_whole(self) -> None:
+        for call in ("os.write", "os.fsync", "os.replace"):
+            with mock.patch(call, side_effect=OSError(5, "Input/output error")), self.assertRaises(OSError):
+                created(self.folder)
+            self.assertNotIn("journal", self.names())
+            with self.assertRaises(lattice.JournalMissingError):
+                opened(self.folder)
+        with mock.patch("lattice.folder.Folder._sync_folder", side_effect=OSError(5, "Input/output error")):
+            with self.assertRaises(OSError):
+                created(self.folder)
+        with self.assertRaises(lattice.JournalThereError):
+            created(self.folder)
+        opened(self.folder).close()
+        self.assertEqual(self.names(), ["journal", "lock"])
+
+    def test_it_is_on_the_disk_before_it_has_its_name(self) -> None:
+        made: list[str] = []
+        with ExitStack() as stack:
+            for name in ("write", "fsync", "fdatasync", "replace"):
+                stack.enter_context(mock.patch(f"os.{name}", noted(name, made)))
+            created(self.folder).close()
+        self.assertEqual(made, ["write", "fsync", "replace", "fsync"])
+
+
+class Lives(WithJournal):
     def test_a_node_comes_back_with_all_that_it_answered(self) -> None:
         for life in range(4):
             with opened(self.folder) as node:
@@ -126,7 +238,10 @@ class Lives(InFolder):
 class Groups(InFolder):
     def setUp(self) -> None:
         super().setUp()
-        self.nodes = [self.start(own) for own in range(3)]
+        self.nodes: list[Durable] = []
+        for own in range(3):
+            (self.folder / str(own)).mkdir()
+            self.nodes.append(created(self.folder / str(own), 3, own))
         self.addCleanup(self.close)
         self.told = [[0] * 8] * 3
         self.bag: list[Mail] = []
@@ -136,9 +251,7 @@ class Groups(InFolder):
             node.close()
 
     def start(self, own: int) -> Durable:
-        folder = self.folder / str(own)
-        folder.mkdir(exist_ok=True)
-        return opened(folder, 3, own)
+        return opened(self.folder / str(own), 3, own)
 
     def collect(self) -> None:
         """Takes in the mail: no view is smaller than it was, and each two are comparable."""
@@ -193,7 +306,7 @@ class Groups(InFolder):
         self.assertEqual([node.total(COUNTER) for node in self.nodes], [made] * 3)
 
 
-class Refusals(InFolder):
+class Refusals(WithJournal):
     def test_damage_is_told_with_its_line(self) -> None:
         with opened(self.folder) as node:
             ends = [len(self.journal()) for _ in range(3) if node.inc(COUNTER, 5)]
@@ -208,11 +321,14 @@ class Refusals(InFolder):
 
     def test_a_folder_that_is_not_there_is_told_by_its_path(self) -> None:
         missing = self.folder / "missing"
-        with self.assertRaisesRegex(FileNotFoundError, f"the folder has to exist: '{missing}'"):
-            Durable(1, 0, missing)
+        starts: list[Callable[..., Durable]] = [Durable, Durable.create]
+        for call in starts:
+            with self.assertRaisesRegex(FileNotFoundError, f"the folder has to exist: '{missing}'"):
+                call(1, 0, missing)
         missing.write_text("")
-        with self.assertRaisesRegex(NotADirectoryError, str(missing)):
-            Durable(1, 0, missing)
+        for call in starts:
+            with self.assertRaisesRegex(NotADirectoryError, str(missing)):
+                call(1, 0, missing)
 
     def test_other_journals(self) -> None:
         with opened(self.folder) as node:
@@ -227,6 +343,7 @@ class Refusals(InFolder):
             (written, lambda: Durable(3, 3, self.folder), lattice.NoReplicaError),
             (written, lambda: Durable(300, 0, self.folder), ValueError),
             (written[1:], lambda: opened(self.folder), lattice.NoJournalError),
+            (b"", lambda: opened(self.folder), lattice.NoJournalError),
             (b"hello", lambda: opened(self.folder), lattice.NoJournalError),
             (b"\n", lambda: opened(self.folder), lattice.NoJournalError),
         ]
@@ -296,7 +413,7 @@ class Refusals(InFolder):
             self.assertEqual(node.total(COUNTER), 100)
 
 
-class Disks(InFolder):
+class Disks(WithJournal):
     def check_closed(self, node: Durable) -> None:
         calls: list[Callable[[], object]] = [
             lambda: node.inc(COUNTER),
@@ -317,20 +434,10 @@ class Disks(InFolder):
 
     def test_files_are_written_and_synced_in_this_order(self) -> None:
         made: list[str] = []
-
-        def noted(name: str) -> Callable[..., object]:
-            call: Callable[..., object] = getattr(os, name)
-
-            def note(*words: object) -> object:
-                made.append(name)
-                return call(*words)
-
-            return note
-
         start = ["write", "fsync", "replace", "fsync"]
         with ExitStack() as stack:
             for name in ("write", "fsync", "fdatasync", "replace"):
-                stack.enter_context(mock.patch(f"os.{name}", noted(name)))
+                stack.enter_context(mock.patch(f"os.{name}", noted(name, made)))
             for _ in range(2):
                 with opened(self.folder) as node:
                     self.assertEqual(made, start)
@@ -380,13 +487,6 @@ class Disks(InFolder):
                     opened(self.folder)
             self.assertEqual(self.journal(), before)
         opened(self.folder).close()
-
-    def test_a_node_in_memory_has_no_journal(self) -> None:
-        with Node(1, 0) as node:
-            node.inc(COUNTER)
-            self.assertEqual(node.submitted(), 1)
-        self.assertEqual(list(self.folder.iterdir()), [])
-
 
 if __name__ == "__main__":
     unittest.main()

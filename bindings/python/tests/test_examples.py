@@ -32,6 +32,7 @@ def line_of_another_group() -> bytes:
 class Readers(InFolder):
     def setUp(self) -> None:
         super().setUp()
+        lattice.Durable.create(3, 0, self.folder).close()
         told = mock.patch("sys.stderr", io.StringIO())
         self.told = told.start()
         self.addCleanup(told.stop)

@@ -23,20 +23,21 @@ PLACES = [BESIDE.parent / "crates" / "lattice" / "out" / "lattice", BESIDE / "la
 PROGRAM = os.environ.get("LATTICE_PROGRAM", next((str(place) for place in PLACES if place.is_file()), ""))
 
 
-# The group, in the words of `lattice init` and of `lattice node` alike.
-GROUP = ["--own", "0", "--replicas", "1", "--commits", "1"]
+def made_by_program(folder: Path) -> None:
+    """What a person makes a node's folder with, once."""
+    words = [PROGRAM, "init", str(folder), "--own", "0", "--replicas", "1", "--commits", "1"]
+    subprocess.run(words, check=True, stderr=subprocess.DEVNULL)
 
 
-def make_journal(folder: Path) -> None:
-    """Makes the journal of a folder that has none, as the program does: once, and not when a node starts."""
-    subprocess.run([PROGRAM, "init", str(folder), *GROUP], check=True)
+def made_by_library(folder: Path) -> None:
+    Durable.create(1, 0, folder, commits=1).close()
 
 
 class Process:
     """A `lattice node` that is alone in its group, and gets back what it sends to itself."""
 
     def __init__(self, folder: Path) -> None:
-        words = [PROGRAM, "node", *GROUP, "--journal", str(folder)]
+        words = [PROGRAM, "node", "--own", "0", "--replicas", "1", "--commits", "1", "--journal", str(folder)]
         pipe = subprocess.PIPE
         self.process = subprocess.Popen(words, stdin=pipe, stdout=pipe, stderr=pipe, bufsize=0)
 
@@ -67,8 +68,6 @@ class Folders(InFolder):
 
     def by_program(self, life: int) -> None:
         """The program adds 7, after it found all that was before."""
-        if not life:
-            make_journal(self.folder)
         process = Process(self.folder)
         if life:
             self.assertIn(f"total {12 * life}", process.call(f"ask 0 {COUNTER} total", "answered"))
@@ -90,11 +89,41 @@ class Folders(InFolder):
             self.assertEqual((node.view()[0], node.outcome(0)), (4 * life + 4, lattice.Outcome(42, True)))
 
     def test_each_goes_on_where_the_other_ended(self) -> None:
+        made_by_library(self.folder)
         for life in range(3):
             self.by_program(life)
             self.by_library(life)
 
+    def test_both_make_the_same_journal(self) -> None:
+        folders = [self.folder / name for name in ("program", "library")]
+        for folder, make in zip(folders, (made_by_program, made_by_library)):
+            folder.mkdir()
+            make(folder)
+        one, other = [(it / "journal").read_bytes() for it in folders]
+        self.assertEqual(one, other)
+        for folder in folders:
+            with self.assertRaises(lattice.JournalThereError):
+                made_by_library(folder)
+            with self.assertRaises(subprocess.CalledProcessError):
+                made_by_program(folder)
+            with Durable(1, 0, folder, commits=1) as node:
+                node.inc(COUNTER)
+
+    def test_the_library_goes_on_from_what_the_program_made(self) -> None:
+        made_by_program(self.folder)
+        self.by_program(0)
+        self.by_library(0)
+
+    def test_neither_begins_where_nothing_is(self) -> None:
+        with self.assertRaises(lattice.JournalMissingError):
+            self.opened()
+        status, told = Process(self.folder).end()
+        self.assertEqual(status, 5)
+        self.assertIn("nothing here: mount its disk; if it is lost, never run this replica again", told)
+        self.assertFalse((self.folder / "journal").exists())
+
     def test_what_one_has_locked_the_other_does_not_open(self) -> None:
+        made_by_program(self.folder)
         with self.opened():
             status, told = Process(self.folder).end()
             self.assertEqual(status, 5)

@@ -1,10 +1,10 @@
 //! Three nodes in three processes, over TCP on this machine: `cargo run --example three_processes`.
 //!
-//! Each node has a journal. One of them is killed twice and started again at once, and comes back by its
-//! journal. A process has a thread for each connection and one that has the node. All queues are
-//! bounded, and what finds no room is dropped, as a network may lose it: a timer has it sent again.
-//! Connections are cut now and then, and made anew. Node 2 is slow: the others agree without it, and it
-//! catches up.
+//! Each node has a journal, which is made once, before any process has it. One of them is killed twice
+//! and started again at once, and comes back by its journal. A process has a thread for each connection
+//! and one that has the node. All queues are bounded, and what finds no room is dropped, as a network
+//! may lose it: a timer has it sent again. Connections are cut now and then, and made anew. Node 2 is
+//! slow: the others agree without it, and it catches up.
 
 use lattice_agreement::{Ask, Config, Durable, DurableError, Error as Refused, Kind, Submit};
 use std::error::Error;
@@ -95,6 +95,10 @@ fn is_harmless(refused: Refused) -> bool {
     )
 }
 
+fn group_of(own: u8) -> Config {
+    Config::new(NODES, own)
+}
+
 /// A node with its connections.
 struct Host {
     own: u8,
@@ -105,9 +109,9 @@ struct Host {
 }
 
 impl Host {
-    /// The node by its journal, with its object, which is in no journal.
+    /// The node by its journal, which has to be there, with its object, which is in no journal.
     fn new(own: u8, folder: &Path, ports: &[u16]) -> Result<Host, DurableError> {
-        let mut node = Durable::open(&Config::new(NODES, own), folder)?;
+        let mut node = Durable::open(&group_of(own), folder)?;
         node.add(VISITS, Kind::Counter)?;
         eprintln!("node {own}: it has submitted {}", node.submitted()?);
         let queues = ports.iter().map(|port| connect(*port)).collect();
@@ -266,10 +270,13 @@ fn totals(folder: &Path) -> Result<Vec<u64>, Box<dyn Error>> {
     totals
 }
 
-fn new_folder() -> io::Result<PathBuf> {
+/// A folder for each node, with the journal that it begins with.
+fn new_folder() -> Result<PathBuf, DurableError> {
     let folder = env::temp_dir().join(format!("lattice-processes-{}", process::id()));
     for own in 0..NODES {
-        fs::create_dir_all(folder.join(own.to_string()))?;
+        let folder = folder.join(own.to_string());
+        fs::create_dir_all(&folder)?;
+        Durable::create(&group_of(own), folder)?;
     }
     Ok(folder)
 }

@@ -6,7 +6,7 @@ use crate::{Ask, Config, Error, Submit};
 use std::fmt;
 use std::fs::{File, TryLockError};
 use std::io::{self, ErrorKind, Write};
-use std::path::Path;
+use std::path::{Path, PathBuf};
 
 /// Why a [`Durable`] was not opened, or did not do a call. A `main` that returns it prints a name
 /// alone: `{error}` is its text.
@@ -23,6 +23,18 @@ pub enum DurableError {
     },
     /// This process or another has the folder.
     Locked,
+    /// No `journal` is in the folder to be opened, and none was made: its disk may not be mounted. If
+    /// it is lost, the replica must never run again. A first start is [`Durable::create`].
+    JournalMissing {
+        /// The folder.
+        folder: PathBuf,
+    },
+    /// A `journal` is in the folder where one was to be made, though perhaps an empty one. It is as
+    /// before: [`Durable::open`] opens it.
+    JournalThere {
+        /// The folder.
+        folder: PathBuf,
+    },
     /// A file can't be opened, read, written or synced, or there is no memory for what is to be
     /// written. An open node is closed by it: the last calls are in its journal or not, and it has to
     /// be opened anew.
@@ -40,6 +52,15 @@ impl fmt::Display for DurableError {
                 write!(f, "the journal is damaged from line {line} on. {what}")
             }
             DurableError::Locked => f.write_str("this process or another has the folder"),
+            DurableError::JournalMissing { folder } => {
+                let what = "mount its disk; if it is lost, never run this replica again";
+                let first = "a first start is `Durable::create`";
+                write!(f, "{}: nothing here: {what}; {first}", folder.display())
+            }
+            DurableError::JournalThere { folder } => {
+                let what = "a journal is made once, and `Durable::open` opens it";
+                write!(f, "{}: there is a journal: {what}", folder.display())
+            }
             DurableError::Disk(error) => write!(f, "the journal's folder or disk failed: {error}"),
             DurableError::Closed => f.write_str("the node is closed, and has to be opened anew"),
         }
@@ -83,14 +104,17 @@ impl From<TryLockError> for DurableError {
 /// Every call that takes something answers once it is on the disk, and nothing is told before. One
 /// sync for several calls is [`batch`](Durable::batch).
 ///
-/// The journal is a file in a folder, which is the same as a folder of `lattice node --journal`: each
-/// of the two may go on where the other ended. It has neither the objects nor what was handed out by
-/// [`Ask::next_learnt`]: after each start the objects are added again, and all that the view has is
-/// handed out again, so that an object of one's own is built anew.
+/// The journal is a file in a folder, which is the same as a folder of `lattice init` and `lattice
+/// node --journal`: each of the two may go on where the other ended. It has neither the objects nor
+/// what was handed out by [`Ask::next_learnt`]: after each start the objects are added again, and all
+/// that the view has is handed out again, so that an object of one's own is built anew.
 ///
 /// **A node whose journal is lost, or is older than the node, must never come back under its number.**
-/// It would give an id to two updates, or accept what it had refused. So a copy of a journal is never
-/// started, but where the folder moves, and is then used nowhere else.
+/// It would give an id to two updates, or accept what it had refused. So a journal is made once, by
+/// [`create`](Durable::create), where a person says that the replica never was. Every other start is
+/// [`open`](Durable::open), which makes none: a folder may be empty because its disk is not mounted.
+/// And a copy of a journal is never started, but where the folder moves, and is then used nowhere
+/// else.
 ///
 /// ```
 /// use lattice_agreement::{Ask, Config, Durable, DurableError, Kind, Submit};
@@ -98,6 +122,8 @@ impl From<TryLockError> for DurableError {
 /// # fn main() -> Result<(), DurableError> {
 /// # let folder = std::env::temp_dir().join(format!("lattice-durable-{}", std::process::id()));
 /// # std::fs::create_dir(&folder)?;
+/// // Once, before the first start.
+/// Durable::create(&Config::new(1, 0), &folder)?;
 /// for life in 1..=3 {
 ///     let mut node = Durable::open(&Config::new(1, 0), &folder)?;
 ///     node.add(7, Kind::Counter)?;
@@ -121,15 +147,54 @@ pub struct Durable {
 }
 
 impl Durable {
-    /// Opens the journal of a folder, and makes the node by it: where the folder has no journal, or
-    /// an empty one, a replica in which nothing has happened. The folder has to exist; all in it is
-    /// made where it is missing. What a crash left of a record goes.
+    /// Makes the journal of a folder where none stands, and opens it: a replica in which nothing has
+    /// happened. It is for the first start of a replica that never was, once: one whose journal is
+    /// lost must not begin anew. The folder has to exist.
     ///
-    /// [`DurableError::Locked`] comes where this process or another has the folder, and
+    /// [`DurableError::JournalThere`] comes where anything stands under the name `journal`, also an
+    /// empty file, and [`DurableError::Locked`] where this process or another has the folder. Else
+    /// `Refused` has [`Error::BadGroup`], [`Error::NoReplica`] or [`Error::Memory`], and no journal
+    /// was made. A crash, or [`DurableError::Disk`], leaves no journal, and this may be called again,
+    /// or the whole, which [`open`](Durable::open) opens.
+    ///
+    /// ```
+    /// use lattice_agreement::{Config, Durable, DurableError};
+    ///
+    /// # fn main() -> Result<(), DurableError> {
+    /// # let folder = std::env::temp_dir().join(format!("lattice-create-{}", std::process::id()));
+    /// # std::fs::create_dir(&folder)?;
+    /// let early = Durable::open(&Config::new(3, 0), &folder);
+    /// assert!(matches!(early, Err(DurableError::JournalMissing { .. })));
+    /// drop(Durable::create(&Config::new(3, 0), &folder)?);
+    /// let again = Durable::create(&Config::new(3, 0), &folder);
+    /// assert!(matches!(again, Err(DurableError::JournalThere { .. })));
+    /// # std::fs::remove_dir_all(&folder)?;
+    /// # Ok(())
+    /// # }
+    /// ```
+    ///
+    /// # Panics
+    ///
+    /// Where the library that is linked has another version of the interface than this crate.
+    pub fn create(config: &Config, folder: impl AsRef<Path>) -> Result<Durable, DurableError> {
+        let path = folder.as_ref();
+        let folder = Folder::take(path)?;
+        if folder.has_journal()? {
+            return Err(DurableError::JournalThere { folder: path.to_path_buf() });
+        }
+        let first = Handle::first_journal(config)?;
+        Durable::recover(config, folder, first)
+    }
+
+    /// Opens the journal of a folder, which was made once, by [`create`](Durable::create) or `lattice
+    /// init`, and makes the node by it. What a crash left of a record goes.
+    ///
+    /// [`DurableError::JournalMissing`] comes where no journal is in the folder, and none is made,
+    /// [`DurableError::Locked`] where this process or another has the folder, and
     /// [`DurableError::Disk`] where there is no folder, or a file can't be opened, read or written.
-    /// Else `Refused` has
-    /// [`Error::BadGroup`], [`Error::NoReplica`], [`Error::NoJournal`], [`Error::OtherJournal`] or
-    /// [`Error::Memory`], or it is [`DurableError::Damaged`]; then the journal is as before.
+    /// Else `Refused` has [`Error::BadGroup`], [`Error::NoReplica`], [`Error::NoJournal`], as of an
+    /// empty file, [`Error::OtherJournal`] or [`Error::Memory`], or it is [`DurableError::Damaged`];
+    /// then the journal is as before.
     ///
     /// ```
     /// use lattice_agreement::{Config, Durable, DurableError, Error};
@@ -137,6 +202,7 @@ impl Durable {
     /// # fn main() -> Result<(), DurableError> {
     /// # let folder = std::env::temp_dir().join(format!("lattice-open-{}", std::process::id()));
     /// # std::fs::create_dir(&folder)?;
+    /// drop(Durable::create(&Config::new(3, 0), &folder)?);
     /// let node = Durable::open(&Config::new(3, 0), &folder)?;
     /// let again = Durable::open(&Config::new(3, 0), &folder);
     /// assert!(matches!(again, Err(DurableError::Locked)));
@@ -152,19 +218,24 @@ impl Durable {
     ///
     /// Where the library that is linked has another version of the interface than this crate.
     pub fn open(config: &Config, folder: impl AsRef<Path>) -> Result<Durable, DurableError> {
-        let folder = Folder::take(folder.as_ref())?;
-        let mut bytes = folder.read()?;
-        let (mut handle, keep) = Handle::recover(config, &bytes)?;
-        bytes.truncate(keep);
-        // A new journal's first record is its head.
-        let mut record = Vec::new();
-        let first = handle.next_record(&mut record)?;
-        let is_new = first.map(|first| bytes.extend_from_slice(first)).is_some();
-        let file = folder.replace(&bytes)?;
-        if is_new {
-            handle.synced()?;
-        }
-        Ok(Durable { handle, file, record, closed: false, _folder: folder })
+        let path = folder.as_ref();
+        let folder = Folder::take(path)?;
+        let missing = || DurableError::JournalMissing { folder: path.to_path_buf() };
+        let found = folder.read()?.ok_or_else(missing)?;
+        Durable::recover(config, folder, found)
+    }
+
+    // Makes the node by what was found in its journal, or is to be the first there. A new file comes in
+    // the journal's place, on the disk: what was found need not be there yet.
+    fn recover(
+        config: &Config,
+        folder: Folder,
+        mut found: Vec<u8>,
+    ) -> Result<Durable, DurableError> {
+        let (handle, keep) = Handle::recover(config, &found)?;
+        found.truncate(keep);
+        let file = folder.replace(&found)?;
+        Ok(Durable { handle, file, record: Vec::new(), closed: false, _folder: folder })
     }
 
     /// Makes several calls with one sync: whatever they took is on the disk once this answers what
@@ -184,7 +255,7 @@ impl Durable {
     /// # let folder = std::env::temp_dir().join(format!("lattice-batch-{}", std::process::id()));
     /// # std::fs::create_dir(&folder)?;
     /// # let lines = [b"hello"];
-    /// let mut node = Durable::open(&Config::new(1, 0), &folder)?;
+    /// let mut node = Durable::create(&Config::new(1, 0), &folder)?;
     /// node.add(7, Kind::Counter)?;
     /// let (first, second) = node.batch(|batch| {
     ///     for line in &lines {
@@ -309,7 +380,6 @@ mod tests {
     use std::fs::{self, OpenOptions};
     use std::os::fd::OwnedFd;
     use std::panic::{AssertUnwindSafe, catch_unwind};
-    use std::path::PathBuf;
 
     fn folder(name: &str) -> PathBuf {
         let path = std::env::temp_dir().join(format!("lattice-{}-{name}", std::process::id()));
@@ -319,7 +389,7 @@ mod tests {
 
     /// A node that answered one submission.
     fn begun(folder: &Path) -> Durable {
-        let mut node = Durable::open(&Config::new(1, 0), folder).unwrap();
+        let mut node = Durable::create(&Config::new(1, 0), folder).unwrap();
         node.add(1, Kind::Counter).unwrap();
         assert_eq!(node.inc(1, 5).unwrap(), 1);
         node

@@ -62,7 +62,7 @@ pub enum Error {
     Ahead,
     /// The node took something that is not on the disk yet: its record is to be written first.
     Unkept,
-    /// The bytes are no journal of this version, or their first line is damaged.
+    /// There is no byte, the bytes are no journal of this version, or their first line is damaged.
     NoJournal,
     /// The journal is that of another replica, or of a group with other replicas, commits, cap or
     /// votes.
@@ -124,7 +124,7 @@ impl Error {
                 "the node took something that is not on the disk yet: its record is to be written first"
             }
             Error::NoJournal => {
-                "the bytes are no journal of this version, or their first line is damaged"
+                "there is no byte, the bytes are no journal of this version, or their first line is damaged"
             }
             Error::OtherJournal => {
                 "the journal is that of another replica, or of a group with other replicas, commits, cap or votes"

@@ -34,13 +34,19 @@ impl Folder {
         Ok(Folder { path: path.to_path_buf(), lock })
     }
 
-    /// The journal's bytes: none where there is no journal.
-    pub(crate) fn read(&self) -> io::Result<Vec<u8>> {
-        unless_missing(fs::read(self.path.join("journal"))).map(Option::unwrap_or_default)
+    /// The journal's bytes; `None` where there is no journal.
+    pub(crate) fn read(&self) -> io::Result<Option<Vec<u8>>> {
+        unless_missing(fs::read(self.path.join("journal")))
+    }
+
+    /// Whether anything stands under the journal's name.
+    pub(crate) fn has_journal(&self) -> io::Result<bool> {
+        let found = fs::symlink_metadata(self.path.join("journal"));
+        Ok(unless_missing(found)?.is_some())
     }
 
     /// Puts bytes in the journal's place, on the disk, and answers the file, for what comes behind
-    /// them. After a crash at any moment the journal is the one before or this one.
+    /// them. A crash at any moment leaves these or what was there before, which may be none.
     pub(crate) fn replace(&self, bytes: &[u8]) -> io::Result<File> {
         let (journal, new) = (self.path.join("journal"), self.path.join("journal.new"));
         unless_missing(fs::remove_file(&new))?;

@@ -7,6 +7,8 @@ use std::ptr::null_mut;
 
 // How long a line of a message has room at first.
 const LINE_BYTES: usize = 512;
+// More than the bytes that a journal begins with.
+const FIRST_BYTES: usize = 256;
 
 /// A live handle, and a buffer for lines.
 pub struct Handle {
@@ -56,6 +58,31 @@ impl Handle {
         };
         Error::of(status)?;
         Ok(Handle::of(place))
+    }
+
+    /// The bytes of the journal that a node begins with.
+    pub(crate) fn first_journal(config: &Config) -> Result<Vec<u8>, Error> {
+        check_version();
+        let mut bytes = vec![0; FIRST_BYTES];
+        let (votes, mut len) = (&config.votes, 0);
+        // SAFETY: the votes are as many as is said, the buffer has the room that is said, and the
+        // length goes to a local.
+        let status = unsafe {
+            sys::lattice_first_journal(
+                config.replicas,
+                config.own,
+                config.commits,
+                config.cap,
+                votes.as_ptr(),
+                votes.len(),
+                bytes.as_mut_ptr(),
+                bytes.len(),
+                &mut len,
+            )
+        };
+        Error::of(status)?;
+        bytes.truncate(len);
+        Ok(bytes)
     }
 
     /// Of a node by what was found in its journal, and how many of these bytes the file is to keep.

@@ -51,7 +51,8 @@
 //! **A [`Node`] keeps nothing on a disk.** Once one was dropped or its process ended, no node may ever
 //! come back under its number in its group: it would give an id to two updates, or accept what it had
 //! refused. The same holds of a [`Durable`] whose journal is lost or damaged, and no older copy may be
-//! put in the journal's place.
+//! put in the journal's place: [`Durable::open`] makes no new one, and [`Durable::create`] is called
+//! once.
 //!
 //! The others go on while they are a majority. No replica comes into a group in its place: who wants as
 //! many replicas again needs a new group. It starts empty, and a program submits into it what it wants

@@ -21,6 +21,10 @@
 //!   none may ever come back under its number in its group: it would give an id to two updates, or
 //!   accept what it had refused. The others go on while they are a majority. The same holds of a
 //!   node whose journal was lost, or went back to an earlier state.
+//! - The bytes of lattice_first_journal are for a replica that never was, once, and for a file
+//!   where nothing stands: they come there as a whole, on the disk, or not at all. A file that is
+//!   missing later is no first start, as its disk may not be mounted. So a program makes it only
+//!   where a person tells it to, as counter.c does by `new`.
 //! - Of a node that [`lattice_node_recover`] made, the program's file has the bytes that were
 //!   found, up to where they were to be kept, and they are on the disk before the node is asked for
 //!   anything but its next record. If the process that wrote them was killed, they can be read
@@ -35,7 +39,7 @@ use std::ffi::c_void;
 use std::mem::{offset_of, size_of};
 
 /// The version of the interface: [`lattice_version`] answers the library's.
-pub const VERSION: u32 = 2;
+pub const VERSION: u32 = 3;
 
 /// A handle: one pointer, which is the library's.
 #[repr(C)]
@@ -138,7 +142,7 @@ pub const STALE: u8 = 26;
 pub const AHEAD: u8 = 27;
 /// The node took something that is not on the disk yet: its record is to be written first.
 pub const UNKEPT: u8 = 28;
-/// The bytes are no journal of this version, or their first line is damaged.
+/// There is no byte, the bytes are no journal of this version, or their first line is damaged.
 pub const NO_JOURNAL: u8 = 29;
 /// The journal is that of another replica, or of a group with other replicas, commits, cap or
 /// votes.
@@ -192,11 +196,30 @@ unsafe extern "C" {
         out: *mut lattice_node,
     ) -> u8;
 
+    /// The bytes of the journal that replica `own` of a group begins with, into a buffer, and how
+    /// many they are: fewer than 256. They go into a file where no journal stands, on the disk, and
+    /// then `lattice_node_recover` plays them. They are for a replica that never was: one that lost
+    /// its journal must not begin anew. The numbers are as of `lattice_node_new`.
+    ///
+    /// In this order: as `lattice_node_new` ends, and [`SMALL`] where the buffer has less room than
+    /// there are bytes, which are told.
+    pub fn lattice_first_journal(
+        replicas: u8,
+        own: u8,
+        commits: u8,
+        cap: u32,
+        votes: *const u16,
+        votes_len: usize,
+        buffer: *mut u8,
+        buffer_room: usize,
+        len: *mut usize,
+    ) -> u8;
+
     /// Makes the same replica of the same group as before of what was found in its journal, and
-    /// puts it into a place, which then is a handle. No byte at all is a new journal. Told is how
-    /// many of the bytes the journal is to keep: behind them stands what a crash left of a record,
-    /// which is to be cut off, on the disk, before anything is put behind. Objects are added anew,
-    /// and all updates are handed over anew.
+    /// puts it into a place, which then is a handle. No byte at all is no journal: the first bytes
+    /// of a new one are `lattice_first_journal`'s. Told is how many of the bytes the journal is to
+    /// keep: behind them stands what a crash left of a record, which is to be cut off, on the disk,
+    /// before anything is put behind. Objects are added anew, and all updates are handed over anew.
     ///
     /// What was found counts as kept, and the node may tell at once what it leads to. But what can
     /// be read from a file need not be on the disk yet, if the process that wrote it was killed

@@ -3,6 +3,7 @@
 use lattice_agreement::{Ask, Config, Counts, Durable, DurableError, Error, Kind, Mail, Submit};
 use std::fs::{self, OpenOptions};
 use std::io::{self, BufRead, BufReader, Write};
+use std::os::unix::fs::symlink;
 use std::path::{Path, PathBuf};
 use std::process::{Command, Stdio};
 use std::{env, process};
@@ -47,11 +48,20 @@ fn alone() -> Config {
     Config { commits: 1, ..Config::new(1, 0) }
 }
 
-fn open(config: &Config, folder: &Path) -> Durable {
-    let mut node = Durable::open(config, folder).unwrap();
+/// A node with its objects.
+fn started(node: Result<Durable, DurableError>) -> Durable {
+    let mut node = node.unwrap();
     node.add(COUNTER, Kind::Counter).unwrap();
     node.add(SET, Kind::OrSet).unwrap();
     node
+}
+
+fn create(config: &Config, folder: &Path) -> Durable {
+    started(Durable::create(config, folder))
+}
+
+fn open(config: &Config, folder: &Path) -> Durable {
+    started(Durable::open(config, folder))
 }
 
 fn journal(folder: &Path) -> Vec<u8> {
@@ -63,7 +73,8 @@ fn a_node_comes_back_with_all_that_it_answered() {
     let scratch = Scratch::new("answered");
     let folder = scratch.folder("0");
     for life in 0..4_u32 {
-        let mut node = open(&alone(), &folder);
+        let start = if life == 0 { create } else { open };
+        let mut node = start(&alone(), &folder);
         assert_eq!(node.submitted().unwrap(), 4 * life);
         assert_eq!(node.total(COUNTER).unwrap(), 7 * i64::from(life));
         assert_eq!(node.items(SET).unwrap(), Vec::from_iter((life > 0).then_some(9)));
@@ -84,7 +95,7 @@ fn a_node_comes_back_with_all_that_it_answered() {
 fn what_a_crash_cut_goes_and_nothing_else() {
     let scratch = Scratch::new("cut");
     let folder = scratch.folder("0");
-    let mut node = open(&alone(), &folder);
+    let mut node = create(&alone(), &folder);
     node.inc(COUNTER, 5).unwrap();
     let told = journal(&folder);
     let made = node.batch(|batch| {
@@ -124,7 +135,7 @@ fn lines_of(bytes: &[u8]) -> usize {
 fn damage_is_told_with_its_line() {
     let scratch = Scratch::new("damage");
     let folder = scratch.folder("0");
-    let mut node = open(&alone(), &folder);
+    let mut node = create(&alone(), &folder);
     node.inc(COUNTER, 5).unwrap();
     let first = journal(&folder).len();
     node.inc(COUNTER, 5).unwrap();
@@ -150,7 +161,7 @@ fn damage_is_told_with_its_line() {
 fn other_journals_are_refused() {
     let scratch = Scratch::new("other");
     let folder = scratch.folder("0");
-    open(&alone(), &folder).inc(COUNTER, 5).unwrap();
+    create(&alone(), &folder).inc(COUNTER, 5).unwrap();
     let bytes = journal(&folder);
     let is = |error, wanted| matches!(error, DurableError::Refused(error) if error == wanted);
     for other in [
@@ -162,7 +173,7 @@ fn other_journals_are_refused() {
     ] {
         assert!(is(refused(&scratch, &other, &bytes), Error::OtherJournal), "{other:?}");
     }
-    for no_journal in [&b"hello\n"[..], b"hello", b"\n", &bytes[1..]] {
+    for no_journal in [&b""[..], b"hello\n", b"hello", b"\n", &bytes[1..]] {
         assert!(is(refused(&scratch, &alone(), no_journal), Error::NoJournal), "{no_journal:?}");
     }
     assert!(is(refused(&scratch, &Config::new(9, 0), &bytes), Error::BadGroup));
@@ -178,21 +189,105 @@ fn a_folder_that_is_not_there_is_told_by_its_path() {
         (scratch.0.join("missing"), io::ErrorKind::NotFound, "the folder has to exist"),
         (file, io::ErrorKind::NotADirectory, ""),
     ] {
-        let opened = Durable::open(&alone(), &path);
-        let Err(DurableError::Disk(error)) = opened else {
-            panic!("{opened:?}");
-        };
-        assert_eq!(error.kind(), kind);
         let told = format!("{}: {told}", path.display());
-        assert!(error.to_string().contains(&told), "{error}");
+        for opened in [Durable::open(&alone(), &path), Durable::create(&alone(), &path)] {
+            let Err(DurableError::Disk(error)) = opened else {
+                panic!("{opened:?}");
+            };
+            assert_eq!(error.kind(), kind);
+            assert!(error.to_string().contains(&told), "{error}");
+        }
     }
+}
+
+/// The names of what is in a folder.
+fn names(folder: &Path) -> Vec<String> {
+    let entries = fs::read_dir(folder).unwrap().map(Result::unwrap);
+    let mut names: Vec<_> = entries.map(|it| it.file_name().into_string().unwrap()).collect();
+    names.sort();
+    names
+}
+
+#[test]
+fn a_start_makes_no_journal() {
+    let scratch = Scratch::new("unmounted");
+    let folder = scratch.folder("0");
+    for _ in 0..2 {
+        let missing = Durable::open(&alone(), &folder).unwrap_err();
+        assert!(matches!(&missing, DurableError::JournalMissing { folder: it } if *it == folder));
+        let told = missing.to_string();
+        for part in [
+            &*format!("{}: nothing here: mount its disk", folder.display()),
+            "if it is lost, never run this replica again",
+            "a first start is `Durable::create`",
+        ] {
+            assert!(told.contains(part), "{told}");
+        }
+        assert_eq!(names(&folder), ["lock"]);
+    }
+    drop(create(&alone(), &folder));
+    open(&alone(), &folder);
+}
+
+#[test]
+fn a_journal_is_made_once() {
+    let scratch = Scratch::new("once");
+    let folder = scratch.folder("0");
+    let node = create(&alone(), &folder);
+    assert!(matches!(Durable::create(&alone(), &folder), Err(DurableError::Locked)));
+    drop(node);
+    let first = journal(&folder);
+    assert!(first.starts_with(b"lattice 2 replica 0 of 1 votes 1 commits 1 cap 1000000 "));
+    assert_eq!(lines_of(&first), 1);
+    open(&alone(), &folder).inc(COUNTER, 5).unwrap();
+    for bytes in [&journal(&folder)[..], &first, b"hello", b""] {
+        let folder = scratch.with_journal(bytes);
+        let there = Durable::create(&alone(), &folder).unwrap_err();
+        assert!(matches!(&there, DurableError::JournalThere { folder: it } if *it == folder));
+        assert!(there.to_string().contains("there is a journal"), "{there}");
+        assert_eq!((&*journal(&folder), names(&folder).len()), (bytes, 2));
+    }
+    assert_eq!(open(&alone(), &folder).total(COUNTER).unwrap(), 5);
+}
+
+#[test]
+fn a_link_to_nowhere_is_a_journal_whose_disk_is_not_there() {
+    let scratch = Scratch::new("link");
+    let folder = scratch.folder("0");
+    let there = scratch.0.join("elsewhere");
+    symlink(&there, folder.join("journal")).unwrap();
+    let missing = Durable::open(&alone(), &folder);
+    assert!(matches!(missing, Err(DurableError::JournalMissing { .. })));
+    let refused = Durable::create(&alone(), &folder);
+    assert!(matches!(refused, Err(DurableError::JournalThere { .. })));
+    assert!(!there.exists());
+}
+
+#[test]
+fn what_is_refused_makes_no_journal() {
+    let scratch = Scratch::new("unmade");
+    let folder = scratch.folder("0");
+    for (config, wanted) in
+        [(Config::new(9, 0), Error::BadGroup), (Config::new(3, 3), Error::NoReplica)]
+    {
+        match Durable::create(&config, &folder) {
+            Err(DurableError::Refused(error)) => assert_eq!(error, wanted),
+            other => panic!("{other:?}"),
+        }
+        assert_eq!(names(&folder), ["lock"]);
+    }
+    // (what a crash left before it was renamed)
+    fs::write(folder.join("journal.new"), "latt").unwrap();
+    create(&alone(), &folder).inc(COUNTER, 5).unwrap();
+    assert_eq!(names(&folder), ["journal", "lock"]);
+    assert_eq!(open(&alone(), &folder).total(COUNTER).unwrap(), 5);
 }
 
 #[test]
 fn one_process_has_a_folder() {
     let scratch = Scratch::new("locked");
     let folder = scratch.folder("0");
-    let node = open(&alone(), &folder);
+    let node = create(&alone(), &folder);
     let locked = Durable::open(&alone(), &folder).unwrap_err();
     assert!(matches!(locked, DurableError::Locked));
     assert_eq!(locked.to_string(), "this process or another has the folder");
@@ -204,7 +299,7 @@ fn one_process_has_a_folder() {
 fn a_refusal_in_a_batch_leaves_the_rest() {
     let scratch = Scratch::new("batch");
     let folder = scratch.folder("0");
-    let mut node = open(&alone(), &folder);
+    let mut node = create(&alone(), &folder);
     let before = journal(&folder);
     assert_eq!(node.batch(|batch| batch.receive(b"hello")).unwrap(), Err(Error::BadLine));
     assert!(matches!(node.receive(b"hello"), Err(DurableError::Refused(Error::BadLine))));
@@ -235,8 +330,9 @@ impl Group {
     fn new(seed: u64) -> Group {
         let scratch = Scratch::new(&format!("group-{seed}"));
         let nodes: Vec<Durable> = (0..3)
-            .map(|own| open(&Config::new(3, own), &scratch.folder(&own.to_string())))
+            .map(|own| create(&Config::new(3, own), &scratch.folder(&own.to_string())))
             .collect();
+        create(&alone(), &scratch.folder("nowhere"));
         Group { scratch, nodes, told: vec![[0; 8]; 3], bag: Vec::new(), seed }
     }
 
@@ -376,6 +472,7 @@ fn killed_after(told: usize, folder: &Path) -> u32 {
 fn a_killed_process_comes_back_with_all_that_it_told() {
     let scratch = Scratch::new("killed");
     let folder = scratch.folder("0");
+    create(&alone(), &folder);
     let mut last = 0;
     for round in 0..12 {
         let told = killed_after(7 * round % 23, &folder);
@@ -391,7 +488,7 @@ fn a_killed_process_comes_back_with_all_that_it_told() {
 fn a_leftover_of_a_start_is_passed_over() {
     let scratch = Scratch::new("leftover");
     let folder = scratch.folder("0");
-    open(&alone(), &folder).inc(COUNTER, 5).unwrap();
+    create(&alone(), &folder).inc(COUNTER, 5).unwrap();
     let mut options = OpenOptions::new();
     let mut leftover =
         options.create_new(true).write(true).open(folder.join("journal.new")).unwrap();

@@ -46,6 +46,8 @@ impl<T: Replicated> Absorbs for Closed<T> {
 
     ghost meaning = { meaning };
 
+    ghost full = { λ state _. ¬ HasRoom state };
+
     fn fresh(&self) -> bool {
         self.object.fresh()
     }

@@ -6,6 +6,7 @@
 #![tactic(auto)]
 
 mod error;
+mod first;
 mod head;
 mod input;
 pub mod laws;
@@ -13,5 +14,6 @@ mod machine;
 mod state;
 
 pub use error::NodeError;
+pub use first::first_journal;
 pub use input::Input;
 pub use machine::{NodeAnswer, NodeMachine};

@@ -26,7 +26,6 @@ use Rattle.la_durable.specs.Restarts.{leads_from}
 use Rattle.la_durable.proofs.lemmas.Kept.{answers_line, kept_alike, line_of_input, steps_line}
 use Rattle.la_embed.specs.declared.program_file.ProgramFile.{ProgramFile}
 use Rattle.la_embed.specs.Journals.{JournalState, LeadsTo, IsNoted, IsRecovered, IsStagedBy, journal_state, lines_said}
-use Rattle.la_embed.specs.Journals.{head_unless}
 
 -- ## Calls one after another
 
@@ -59,7 +58,7 @@ leads_synced j kept leads =
       handed = [];
       more = leads.more;
       on_disk = leads.with_given ∙ mid.1;
-      ends = inr leads.whole;
+      ends = ap rest_in leads.whole.read ∙ leads.whole.whole;
       with_given = ap (leads_from j.start) (append-nil (j.disk ++ j.given)) ∙ leads.with_given ∙ mid.1;
       whole = subst EndsInGroups (sym (append-nil (j.disk ++ j.given))) leads.whole;
       staged = leads.staged;
@@ -246,16 +245,6 @@ noted_recorded config own old new closed now_closed was written text now kept af
 
 -- ## A start
 
-no_bytes : (n : ℕ) → take {A = ℕ} n [] ≡ []
-no_bytes zero = refl
-no_bytes (suc n) = refl
-
-none_taken : (file same : List ℕ) → file ≡ same → take (length file - length same) file ≡ []
-none_taken file same is = ap (λ n. take n file) (no_more (length file) (length same) (ap length is))
-  where
-    no_more : (n m : ℕ) → n ≡ m → n - m ≡ 0
-    no_more n m is = omega (arith, is)
-
 module _ (config : Config) (own : ℕ) (held text : List ℕ) (kept : ReplicaState) where
   abbrev start : ReplicaState
   start = (node_at_start config own empty_shelf).replica
@@ -263,47 +252,20 @@ module _ (config : Config) (own : ℕ) (held text : List ℕ) (kept : ReplicaSta
   abbrev over : List ℕ → JournalState
   over head = journal_state config own held head text
 
-  pub starts_to : (found head : List ℕ) → held ≡ recovered_file (node_head start) found
-      → head ≡ head_unless found start → ended text ≡ [] → leads_from start found ≡ Some kept
+  pub starts_to : (found : List ℕ) → held ≡ recovered_file found → ended text ≡ [] → leads_from start found ≡ Some kept
       → leads_from start held ≡ Some kept → EndsInGroups held
-      → (held ≡ (over head).disk ++ head) × LeadsTo (over head) kept
-      × IsRecovered config own found (length found - length (rest_in (parts found))) kept (over head)
-  starts_to [] head written is none was leads ends =
-      let same : held ≡ head = written ∙ sym is in
-      let disk : (over head).disk ≡ [] = none_taken held head same in
-      let whole : (over head).disk ++ head ≡ held = ap (λ d. d ++ head) disk ∙ sym same in (
-        sym whole,
-        record {
-          told = kept;
-          handed = [];
-          more = [];
-          on_disk = ap (leads_from start) disk ∙ was;
-          ends = inl disk;
-          with_given = ap (leads_from start) whole ∙ leads;
-          whole = subst EndsInGroups (sym whole) ends;
-          staged = none;
-          now = refl;
-        },
-        record {
-          start = refl;
-          leads = was;
-          all_but = refl;
-          disk = disk ∙ sym (no_bytes (0 - length (rest_in (parts []))));
-          given = is;
-          staged = none;
-        },
-      )
-  starts_to (b ∷ found) head written is none was leads ends =
-      let disk : (over head).disk ≡ held = all_taken held head is in
-      let whole : (over head).disk ++ head ≡ held =
-      ap (λ h. (over head).disk ++ h) is ∙ append-nil (over head).disk ∙ disk in (
+      → (held ≡ (over []).disk ++ []) × LeadsTo (over []) kept
+      × IsRecovered config own found (length found - length (rest_in (parts found))) kept (over [])
+  starts_to found written none was leads ends =
+      let disk : (over []).disk ≡ held = all_taken held [] refl in
+      let whole : (over []).disk ++ [] ≡ held = append-nil (over []).disk ∙ disk in (
         sym whole,
         record {
           told = kept;
           handed = [];
           more = [];
           on_disk = ap (leads_from start) disk ∙ leads;
-          ends = inr (subst EndsInGroups (sym disk) ends);
+          ends = ap (λ f. rest_in (parts f)) disk ∙ ap rest_in ends.read ∙ ends.whole;
           with_given = ap (leads_from start) whole ∙ leads;
           whole = subst EndsInGroups (sym whole) ends;
           staged = none;
@@ -314,26 +276,29 @@ module _ (config : Config) (own : ℕ) (held text : List ℕ) (kept : ReplicaSta
           leads = was;
           all_but = refl;
           disk = disk ∙ written;
-          given = is;
+          given = refl;
           staged = none;
         },
       )
 
 -- all of it, by what a recovery says
-pub noted_start : (config : Config) (own : ℕ) (found head text : List ℕ) (first kept : ReplicaState)
+pub noted_start : (config : Config) (own : ℕ) (found handed text : List ℕ) (first kept : ReplicaState)
     (file : ProgramFile) (closed : Bool) → first ≡ (node_at_start config own empty_shelf).replica
-    → held_bytes file.contents ≡ recovered_file (node_head first) found → head ≡ head_unless found first → text ≡ []
+    → held_bytes file.contents ≡ recovered_file found → handed ≡ [] → text ≡ []
     → leads_from first found ≡ Some kept → leads_from first (held_bytes file.contents) ≡ Some kept → closed ≡ false
     → IsSettled (λ (f : ProgramFile). held_bytes f.contents) (λ f c. may_leave_of f.contents c) file
-    → IsNoted (record { journal = journal_state config own (held_bytes file.contents) head text; kept = kept }) closed
+    → IsNoted (record { journal = journal_state config own (held_bytes file.contents) handed text; kept = kept }) closed
     file
     × IsRecovered config own found (length found - length (rest_in (parts found))) kept
-    (journal_state config own (held_bytes file.contents) head text)
-noted_start config own found head text first kept file closed is written has none was leads is_open settled =
-    let begun = starts_to config own (held_bytes file.contents) text kept found head
-    (written ∙ ap (λ q. recovered_file (node_head q) found) is) (has ∙ ap (head_unless found) is) (ap ended none)
+    (journal_state config own (held_bytes file.contents) handed text)
+noted_start config own found handed text first kept file closed is written nothing none was leads is_open settled =
+    let begun = starts_to config own (held_bytes file.contents) text kept found written (ap ended none)
     (ap (λ q. leads_from q found) (sym is) ∙ was) (ap (λ q. leads_from q (held_bytes file.contents)) (sym is) ∙ leads)
-    (record { has = settled.has; read = settled.read; whole = settled.whole }) in (
-      record { unclosed = is_open; settled = settled; ends = begun.0; leads = begun.1 },
-      begun.2,
-    )
+    (record { has = settled.has; read = settled.read; whole = settled.whole }) in
+    subst (λ h. IsNoted (record {
+      journal = journal_state config own (held_bytes file.contents) h text;
+      kept = kept;
+    }) closed file
+    × IsRecovered config own found (length found - length (rest_in (parts found))) kept
+    (journal_state config own (held_bytes file.contents) h text)) (sym nothing)
+    (record { unclosed = is_open; settled = settled; ends = begun.0; leads = begun.1 }, begun.2)

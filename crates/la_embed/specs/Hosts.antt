@@ -1,7 +1,7 @@
 -- A host: a node with a shelf of objects, what waits to be sent, and what of its view was handed on.
-use Rattle.std.specs.Prelude.{◌≡◌, ◌⊎◌, ⊤, ℕ, ◌<◌, ◌==◌, Bool, true, false, List, [], ◌∷◌, ◌++◌, length, Option}
+use Rattle.std.specs.Prelude.{◌≡◌, ◌⊎◌, ℕ, ◌+◌, ◌-◌, ◌^◌, ◌<◌, ◌==◌, min, Bool, true, false, List, [], ◌∷◌, ◌++◌, length, Option}
 use Rattle.std.specs.Prelude.{Some, None}
-use Rattle.std.specs.Prelude.{if◌then◌else◌}
+use Rattle.std.specs.Prelude.{if◌then◌else◌, IsSome}
 use Rattle.la_set.specs.declared.counts.Counts.{Counts}
 use Rattle.la_set.specs.Counts.{zero_counts}
 use Rattle.la_set.specs.Inclusion.{IsSubset}
@@ -38,6 +38,8 @@ pub record HostState : Type 0 where
   pub links : Links
   -- what waits to be sent, the oldest first
   pub mail : List Outgoing
+  -- how often something that was to be sent was lost
+  pub lost : ℕ
   -- what of the view was handed on
   pub handed : Counts
   -- its journal, where it has one
@@ -55,6 +57,7 @@ host_over journal kept = record {
   shelf = empty_shelf;
   links = links_over (progress_of kept);
   mail = [];
+  lost = 0;
   handed = zero_counts;
   journal = journal;
 }
@@ -80,17 +83,28 @@ abbrev pub IsSent : Links → (own : ℕ) → List Letter → (before mail : Lis
 IsSent links own letters before mail noted =
     (mail ≡ with_letters own before letters) × (noted ≡ noted_all links letters)
 
+-- once more something is lost, for want of memory: the host counts that, as far as a u64 goes
+abbrev pub lost_once : ℕ → ℕ
+lost_once lost = min (lost + 1) (2 ^ 64 - 1)
+
+-- this was done, and nothing is lost; or nothing waits that did not, and one loss more is counted
+abbrev pub IsDoneOrLost : Type 0 → Links → (before mail : List Outgoing) → (noted : Links) → (lost_before lost : ℕ) → Type 0
+IsDoneOrLost done links before mail noted lost_before lost =
+    (done × (lost ≡ lost_before)) ⊎ ((mail ≡ before) × (noted ≡ links) × (lost ≡ lost_once lost_before))
+
 -- A node's mail is put to what waits, each message that goes out as a letter over what was sent to its receiver; or
 -- there was no memory, and all of it is lost, as a transport may lose it.
 abbrev pub IsPosted : Links → (after : ReplicaState) → (sent : List code.Message) → (before mail : List Outgoing)
-    → (noted : Links) → Type 0
-IsPosted links after sent before mail noted =
-    IsSent links after.own (letters_sent links after sending.Call sent) before mail noted
-    ⊎ ((mail ≡ before) × (noted ≡ links))
+    → (noted : Links) → (lost_before lost : ℕ) → Type 0
+IsPosted links after sent before mail noted lost_before lost =
+    IsDoneOrLost (IsSent links after.own (letters_sent links after sending.Call sent) before mail noted) links before mail
+    noted lost_before lost
 
 -- a standing is put there, or was lost so
-abbrev pub IsToldBack : Standing → (before mail : List Outgoing) → Type 0
-IsToldBack standing before mail = (mail ≡ before ++ out.Standing standing ∷ []) ⊎ (mail ≡ before)
+abbrev pub IsToldBack : Standing → (before mail : List Outgoing) → (lost_before lost : ℕ) → Type 0
+IsToldBack standing before mail lost_before lost =
+    ((mail ≡ before ++ out.Standing standing ∷ []) × (lost ≡ lost_before))
+    ⊎ ((mail ≡ before) × (lost ≡ lost_once lost_before))
 
 -- of what waits for an answer some is put there once more
 abbrev pub IsPutAgain : ReplicaState → Links → Sending → (before mail : List Outgoing) → (noted : Links) → Type 0
@@ -105,19 +119,22 @@ IsPostedAgain before mail noted =
 
 -- What a replica lacks is told anew, where it said so; or there was no memory, and it is lost.
 abbrev pub IsMendedIf : (lacks : Bool) → ReplicaState → Links → (replica : ℕ) → (before mail : List Outgoing)
-    → (noted : Links) → Type 0
-IsMendedIf false kept links r before mail noted = (mail ≡ before) × (noted ≡ links)
-IsMendedIf true kept links r before mail noted =
-    IsPutAgain kept links (sending.Lack r) before mail noted ⊎ ((mail ≡ before) × (noted ≡ links))
+    → (noted : Links) → (lost_before lost : ℕ) → Type 0
+IsMendedIf false kept links r before mail noted lost_before lost =
+    (mail ≡ before) × (noted ≡ links) × (lost ≡ lost_before)
+IsMendedIf true kept links r before mail noted lost_before lost =
+    IsDoneOrLost (IsPutAgain kept links (sending.Lack r) before mail noted) links before mail noted lost_before lost
 
-abbrev pub IsMended : ReplicaState → Links → (replica : ℕ) → (before mail : List Outgoing) → (noted : Links) → Type 0
-IsMended kept links r before mail noted = IsMendedIf (is_lacked links r) kept links r before mail noted
+abbrev pub IsMended : ReplicaState → Links → (replica : ℕ) → (before mail : List Outgoing) → (noted : Links)
+    → (lost_before lost : ℕ) → Type 0
+IsMended kept links r before mail noted lost_before lost =
+    IsMendedIf (is_lacked links r) kept links r before mail noted lost_before lost
 
 -- why no tags are told
 abbrev pub IsUnseen : Option (List UpdateId) → ShelfError → Type 0
 IsUnseen o shelf.NoSuchObject = o ≡ None
 IsUnseen o shelf.TooManyTags = (tags : List UpdateId) × (o ≡ Some tags) × (MAX_TAGS < length tags)
-IsUnseen o shelf.Memory = ⊤
+IsUnseen o shelf.Memory = IsSome o
 IsUnseen o shelf.Taken = ⊥
 IsUnseen o shelf.NotFresh = ⊥
 
@@ -128,7 +145,7 @@ IsUnseen o shelf.NotFresh = ⊥
 pub record IsHostStep (before : HostState) (heard : Links) (call : WireCall) (given : Given) (after : HostState)
     : Type 0 where
   pub does : acts before.kept call ≡ Some (given, after.kept)
-  pub mail : IsPosted heard after.kept given.mail before.mail after.mail after.links
+  pub mail : IsPosted heard after.kept given.mail before.mail after.mail after.links before.lost after.lost
   pub shelf : after.shelf ≡ before.shelf
   pub handed : after.handed ≡ before.handed
   pub journal : JournalsCall before.kept call given after.kept before.journal after.journal
@@ -147,8 +164,7 @@ submitted_by h = number_or_none (submitted_in h.kept 0)
 
 -- the same with other objects
 abbrev pub with_objects : HostState → ShelfState → HostState
-with_objects h shelf =
-    record { kept = h.kept; shelf = shelf; links = h.links; mail = h.mail; handed = h.handed; journal = h.journal }
+with_objects h shelf = record h { shelf = shelf }
 
 -- its shelf, once that has absorbed the view
 abbrev pub shelf_now : HostState → ShelfState
@@ -156,25 +172,24 @@ shelf_now h = record { view = h.kept.view; objects = h.shelf.objects }
 
 -- the same with what was heard
 abbrev pub with_links : HostState → Links → HostState
-with_links h links =
-    record { kept = h.kept; shelf = h.shelf; links = links; mail = h.mail; handed = h.handed; journal = h.journal }
+with_links h links = record h { links = links }
 
 -- the same with other mail
 abbrev pub with_mail : HostState → List Outgoing → HostState
-with_mail h mail =
-    record { kept = h.kept; shelf = h.shelf; links = h.links; mail = mail; handed = h.handed; journal = h.journal }
+with_mail h mail = record h { mail = mail }
 
 -- the same with other mail, of which note was taken
 abbrev pub with_noted : HostState → List Outgoing → Links → HostState
-with_noted h mail links =
-    record { kept = h.kept; shelf = h.shelf; links = links; mail = mail; handed = h.handed; journal = h.journal }
+with_noted h mail links = record h { links = links; mail = mail }
+
+-- the same with so many losses
+abbrev pub with_lost : HostState → ℕ → HostState
+with_lost h lost = record h { lost = lost }
 
 -- with its journal as this
 abbrev pub with_journal : HostState → Option JournalState → HostState
-with_journal h journal =
-    record { kept = h.kept; shelf = h.shelf; links = h.links; mail = h.mail; handed = h.handed; journal = journal }
+with_journal h journal = record h { journal = journal }
 
 -- and with so much handed on
 abbrev pub with_handed : HostState → Counts → HostState
-with_handed h handed =
-    record { kept = h.kept; shelf = h.shelf; links = h.links; mail = h.mail; handed = handed; journal = h.journal }
+with_handed h handed = record h { handed = handed }

@@ -55,8 +55,8 @@ pub record LeadsTo (j : JournalState) (kept : ReplicaState) : Type 0 where
   pub handed : List CallLine
   pub more : List CallLine
   pub on_disk : leads_from j.start j.disk ≡ Some told
-  -- a new journal has no byte yet
-  pub ends : (j.disk ≡ []) ⊎ EndsInGroups j.disk
+  -- and nothing stands behind its groups
+  pub ends : rest_in (parts j.disk) ≡ []
   pub with_given : leads_from j.start (j.disk ++ j.given) ≡ steps step handed told
   -- what was handed out ends in groups too
   pub whole : EndsInGroups (j.disk ++ j.given)
@@ -140,11 +140,6 @@ journal_synced (Some j) = Some (record { start = j.start; disk = j.disk ++ j.giv
 
 -- ## A start on what is found
 
--- what a new journal's program is handed first: its head
-abbrev pub head_unless : (found : List ℕ) → (start : ReplicaState) → List ℕ
-head_unless [] start = head_line (node_head start) ++ 10 ∷ []
-head_unless (b ∷ found) start = []
-
 -- So many bytes of what was found are kept, all but what a crash left behind its groups. They lead to what the node
 -- keeps.
 pub record IsRecovered (config : Config) (own : ℕ) (found : List ℕ) (keep : ℕ) (kept : ReplicaState) (j : JournalState)
@@ -153,7 +148,7 @@ pub record IsRecovered (config : Config) (own : ℕ) (found : List ℕ) (keep : 
   pub leads : leads_from j.start found ≡ Some kept
   pub all_but : keep ≡ length found - length (rest_in (parts found))
   pub disk : j.disk ≡ take keep found
-  pub given : j.given ≡ head_unless found j.start
+  pub given : j.given ≡ []
   pub staged : j.staged ≡ []
 
 -- why no host is made: its group, or the journal
@@ -174,13 +169,13 @@ IsRefusedOver journal unsaid Is e =
 
 -- ## A crash
 
--- Whatever a crash leaves of what was being put behind the bytes on the disk, from when the head is there: the file
+-- Whatever a crash leaves of what was being put behind the bytes on the disk: the file
 -- leads to what the node was when all was last on the disk, by the first some of the calls that were taken since. None
 -- is lost of those before.
 abbrev pub CrashesKeepWhatWasTold : Type 0
 CrashesKeepWhatWasTold =
     (j : JournalState) (kept : ReplicaState) (left : List ℕ) →
-    LeadsTo j kept → EndsInGroups j.disk → Torn j.given j.disk left →
+    LeadsTo j kept → Torn j.given j.disk left →
     (told : ReplicaState) × ((calls : List CallLine)
     × (leads_from j.start j.disk ≡ Some told) × (steps step calls told ≡ Some kept)
     × LeadsToSome (leads_from j.start) step calls told left)

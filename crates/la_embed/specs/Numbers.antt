@@ -40,12 +40,16 @@ RefusesToPropose before commit value =
     IsRefusedOver before.journal (IsCall (Decide before.kept.own commit value) → ⊥)
     (RefusesProposal before.kept before.kept.own commit)
 
--- under any other it is refused
+-- this was not submitted under the number: another was, or none
+abbrev pub IsNotSubmitted : ReplicaState → (number : ℕ) → ObjectOp → NumberError → Type 0
+IsNotSubmitted kept number d Stale = (other : ObjectOp) × (submitted_as kept number ≡ Some other) × (other ≢ d)
+IsNotSubmitted kept number d Gap = submitted_as kept number ≡ None
+IsNotSubmitted kept number d (Node e) = ⊥
+
+-- under any other than the next it is refused
 abbrev pub IsNumberRefusal : HostState → (number : ℕ) → ObjectOp → NumberError → Type 0
 IsNumberRefusal before number d Stale =
-    (number ≢ submitted_by before + 1)
-    × ((other : ObjectOp) × (submitted_as before.kept number ≡ Some other) × (other ≢ d))
-IsNumberRefusal before number d Gap =
-    (number ≢ submitted_by before + 1) × (submitted_as before.kept number ≡ None)
+    (number ≢ submitted_by before + 1) × IsNotSubmitted before.kept number d Stale
+IsNumberRefusal before number d Gap = (number ≢ submitted_by before + 1) × IsNotSubmitted before.kept number d Gap
 IsNumberRefusal before number d (Node e) =
     (number ≡ submitted_by before + 1) × RefusesToSubmit before d e

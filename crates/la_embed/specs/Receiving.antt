@@ -21,7 +21,7 @@ use Rattle.la_embed.specs.declared.error.HostError.TheVariants.{Line, NoMessage,
 use Rattle.la_embed.specs.declared.outgoing.Outgoing.{Outgoing}
 use Rattle.la_embed.specs.declared.outgoing.Outgoing.TheVariants as out
 use Rattle.la_embed.specs.Journals.{IsRefusedOver}
-use Rattle.la_embed.specs.Hosts.{HostState, TakesCall, IsToldBack, IsMended, with_links, with_mail, with_noted}
+use Rattle.la_embed.specs.Hosts.{HostState, TakesCall, IsToldBack, IsMended, with_links, with_mail, with_noted, with_lost, lost_once}
 use Rattle.la_embed.specs.Refusals.{host_error_of_node}
 
 -- ## What a host makes of it
@@ -37,13 +37,15 @@ links_by before letter = known_with before.links letter.parcel.from letter.progr
 -- Another says how far it is: where it lacks what a letter was told over, it is told that.
 abbrev pub TakesStanding : HostState → Standing → HostState → Type 0
 TakesStanding before s after =
-    IsMended before.kept (answered_with before.links s) s.from before.mail after.mail after.links
-    × (after ≡ with_noted before after.mail after.links)
+    IsMended before.kept (answered_with before.links s) s.from before.mail after.mail after.links before.lost after.lost
+    × (after ≡ with_noted (with_lost before after.lost) after.mail after.links)
 
 -- How far the host is is told to another; what it would tell to itself it takes at once.
 abbrev pub AnswersIf : (own : Bool) → HostState → Standing → HostState → Type 0
 AnswersIf true before s after = TakesStanding before s after
-AnswersIf false before s after = IsToldBack s before.mail after.mail × (after ≡ with_mail before after.mail)
+AnswersIf false before s after =
+    IsToldBack s before.mail after.mail before.lost after.lost
+    × (after ≡ with_mail (with_lost before after.lost) after.mail)
 
 abbrev pub Answers : HostState → Standing → HostState → Type 0
 Answers before s after = AnswersIf (s.to == before.kept.own) before s after
@@ -123,9 +125,9 @@ abbrev pub TakesByLine : HostState → Letter → HostState → Type 0
 TakesByLine before letter after =
     IsTypedMessage (letter_message letter) × TakesHostLine before (message_text (letter_message letter)) after
 
--- it is taken from what waits, and received, by its line where there is a journal, or lost
+-- it is taken from what waits, and received, by its line where there is a journal, or lost, which is counted
 abbrev pub BringsOwn : HostState → Option Letter → (brought : Bool) → HostState → Type 0
 BringsOwn before None brought after = (brought ≡ false) × (after ≡ before)
 BringsOwn before (Some letter) brought after =
     (brought ≡ true) × (let left = with_mail before (drop 1 before.mail) in
-    TakesLetter left letter after ⊎ TakesByLine left letter after ⊎ (after ≡ left))
+    TakesLetter left letter after ⊎ TakesByLine left letter after ⊎ (after ≡ with_lost left (lost_once left.lost)))

@@ -1,4 +1,4 @@
-ghost use Rattle.std.specs.Prelude.{◌≡◌, ◌≢◌, ◌<◌, ◌≤◌, ◌+◌, ◌++◌, ◌∷◌, [], Ok, Some, None, IfOk, IfErr, OnOk, OnErr};
+ghost use Rattle.std.specs.Prelude.{◌≡◌, ◌≢◌, ◌⊎◌, ◌<◌, ◌≤◌, ◌+◌, ◌++◌, ◌∷◌, [], Ok, Some, None, IfOk, IfErr, OnOk, OnErr};
 ghost use Rattle.std.specs.Prelude.{◌↔◌, IsTrue, true, false, option_map, drop, length, slice_get};
 ghost use Rattle.std.specs.Option.{option_copied};
 ghost use Rattle.la_object.specs.Objects.{kind_of};
@@ -21,11 +21,12 @@ ghost use Rattle.la_proposer.specs.Inputs.{all_submitted};
 ghost use Rattle.la_embed.specs.Journals.{JournalState, AllIsKept, MakesRecord, IsJournaled, IsRecovered, IsNotRecovered};
 ghost use Rattle.la_embed.specs.Journals.{IsRefusedOver, record_in, journal_synced};
 ghost use Rattle.la_embed.specs.Keepers.{state_kept, journal_in, is_own_call};
-ghost use Rattle.la_embed.specs.Numbers.{SubmitsUnder, IsNumberRefusal, RefusesToSubmit, RefusesToPropose};
+ghost use Rattle.la_embed.specs.Numbers.{SubmitsUnder, IsNumberRefusal, IsNotSubmitted, RefusesToSubmit, RefusesToPropose, submitted_as};
 ghost use Rattle.la_embed.specs.Learnt.{IsNextLearnt, handed_noting};
 ghost use Rattle.la_embed.specs.Hosts.{host_of, host_over, shelf_now, submitted_by, with_handed, with_journal, with_mail};
-ghost use Rattle.la_embed.specs.Hosts.{TakesCall, IsSent, IsPosted, IsToldBack, IsPostedAgain, IsMended, IsUnseen};
-ghost use Rattle.la_embed.specs.Hosts.{with_letter, with_letters, with_noted, with_objects};
+ghost use Rattle.la_embed.specs.Hosts.{TakesCall, IsSent, IsPosted, IsToldBack, IsPutAgain, IsPostedAgain, IsMended, IsUnseen};
+ghost use Rattle.la_embed.specs.Hosts.{with_letter, with_letters, with_noted, with_lost, lost_once, with_objects};
+ghost use Rattle.la_node.specs.declared.link.Sending.TheVariants.{Lack};
 ghost use Rattle.la_embed.specs.Receiving.{Answers, TakesHostLine, TakesLetter, TakesByLine, RefusesHere, IsLineRefusal, BringsOwn};
 ghost use Rattle.la_embed.specs.Receiving.{own_first};
 ghost use Rattle.la_embed.specs.Receiving.{is_for_host};
@@ -55,6 +56,7 @@ pub struct Host<B: Replicated> {
     shelf: Shelf<B>,
     links: Links,
     mail: VecDeque<Outgoing>,
+    lost: u64,
     handed: Counts,
 }
 
@@ -69,6 +71,7 @@ impl<B: Replicated> Model for Host<B> {
       shelf = h.shelf;
       links = h.links;
       mail = h.mail.items;
+      lost = h.lost;
       handed = h.handed;
       journal = journal_in h.keeper;
     } };
@@ -78,6 +81,7 @@ impl<B: Replicated> Model for Host<B> {
       shelf = h.shelf;
       links = h.links;
       mail = h.mail.items;
+      lost = h.lost;
       handed = h.handed;
       journal = journal_in h.keeper;
     }) };
@@ -136,6 +140,7 @@ impl<B: Replicated> Host<B> {
             shelf: Shelf::new(alloc),
             links,
             mail: VecDeque::new(alloc),
+            lost: 0,
             handed: Counts::zero(),
         }
     }
@@ -192,6 +197,15 @@ impl<B: Replicated> Host<B> {
         ensures { result.now ≡ self.now.kept.view }
     {
         self.keeper.node().view()
+    }
+
+    /// How often something that was to be sent was lost, because memory for it was refused, since the host was made. Where
+    /// it has grown since it was last asked, a transport has in effect lost that: a timer's [`Host::again`] makes up for
+    /// it. It counts up to 2^64 - 1.
+    pub fn lost(&self) -> u64
+        ensures { result ≡ self.now.lost }
+    {
+        self.lost
     }
 
     /// How many updates it has submitted: the number of the last.
@@ -252,26 +266,44 @@ impl<B: Replicated> Host<B> {
         Ok(())
     }
 
+    // Counts that something which was to be sent is lost.
+    fn lose(&mut self)
+        ensures { self.new ≡ with_lost self.old (lost_once self.old.lost) }
+    {
+        self.lost = self.lost.saturating_add(1);
+    }
+
     // Puts mail of the node to what waits. Where there is no memory it is lost, as a transport may lose it.
     fn post(&mut self, mail: Mail)
-        ensures mail { IsPosted self.old.links self.old.kept mail self.old.mail self.new.mail self.new.links }
-        ensures same { self.new ≡ with_noted self.old self.new.mail self.new.links }
+        ensures mail { IsPosted self.old.links self.old.kept mail self.old.mail self.new.mail self.new.links self.old.lost self.new.lost }
+        ensures same { self.new ≡ with_noted (with_lost self.old self.new.lost) self.new.mail self.new.links }
     {
-        let _lost = self.send(mail, Sending::Call);
+        if self.send(mail, Sending::Call).is_err() {
+            self.lose();
+        }
     }
 
     // Tells a replica anew what it lacks, where it said so. Where there is no memory that is lost.
     fn mend(&mut self, replica: u8)
-        ensures mail { IsMended self.old.kept self.old.links replica self.old.mail self.new.mail self.new.links }
-        ensures same { self.new ≡ with_noted self.old self.new.mail self.new.links }
+        ensures mail { IsMended self.old.kept self.old.links replica self.old.mail self.new.mail self.new.links self.old.lost self.new.lost }
+        ensures same { self.new ≡ with_noted (with_lost self.old self.new.lost) self.new.mail self.new.links }
     {
         if !self.links.is_lacked(replica) {
             return;
         }
-        let Ok(mail) = self.keeper.node().again() else {
-            return;
-        };
-        let _lost = self.send(mail, Sending::Lack(replica));
+        if self.send_lacked(replica).is_err() {
+            self.lose();
+        }
+    }
+
+    // Puts what waits for an answer to what is to be sent once more, for a replica that lacks it.
+    fn send_lacked(&mut self, replica: u8) -> Result<(), AllocError>
+        ensures ok { OnOk result (IsPutAgain self.old.kept self.old.links (Lack replica) self.old.mail self.new.mail self.new.links) }
+        ensures same { self.new ≡ with_noted self.old self.new.mail self.new.links }
+        ensures err { OnErr result (self.new ≡ self.old) }
+    {
+        let mail = self.keeper.node().again()?;
+        self.send(mail, Sending::Lack(replica))
     }
 
     // Takes a call, by its line where there is a journal: one step of the node.
@@ -308,7 +340,8 @@ impl<B: Replicated> Host<B> {
     }
 
     /// Submits an operation on an object, whether or not its shelf has one under the number, and answers the update's
-    /// number. What is to be sent of it waits from then on, or is lost for want of memory, as a transport may lose it.
+    /// number. What is to be sent of it waits from then on, or is lost for want of memory, as a transport may lose it, and
+    /// [`Host::lost`] has grown.
     ///
     /// The errors are the node's: `Replica` with `Full` where it has submitted its cap, or with `BallotsSpent` where no
     /// ballot is left, and `Memory`; over a journal also `Unkept`, for an operation that no line says: a vote. After each
@@ -340,14 +373,24 @@ impl<B: Replicated> Host<B> {
         ensures err { OnErr result (self.new ≡ self.old) }
     {
         if number.checked_sub(1) == Some(self.count()) {
-            let _number = self.submit(object, op)?;
-            return Ok(());
+            return match self.submit(object, op) {
+                Ok(_number) => Ok(()),
+                Err(refused) => Err(NumberError::Node(refused)),
+            };
         }
+        self.find_submitted(number, object, &op)
+    }
+
+    // Whether this operation was submitted under the number.
+    fn find_submitted(&self, number: u32, object: u16, op: &Op) -> Result<(), NumberError>
+        ensures ok { OnOk result (submitted_as self.now.kept number ≡ Some (op_on object op.now)) }
+        ensures error { IfErr result (IsNotSubmitted self.now.kept number (op_on object op.now)) }
+    {
         let Some(first) = self.keeper.node().replica().instances().first() else {
             return Err(NumberError::Gap);
         };
         match submitted_under(&first.proposer, number) {
-            Some(update) if does(update, object, &op) => Ok(()),
+            Some(update) if does(update, object, op) => Ok(()),
             Some(_) => Err(NumberError::Stale),
             None => Err(NumberError::Gap),
         }
@@ -372,10 +415,11 @@ impl<B: Replicated> Host<B> {
     // Answers another's letter that is not received by how far the host is. Where there is no memory the answer is lost,
     // as a transport may lose it.
     fn tell_back(&mut self, standing: Standing)
-        ensures mail { IsToldBack standing self.old.mail self.new.mail }
-        ensures same { self.new ≡ with_mail self.old self.new.mail }
+        ensures mail { IsToldBack standing self.old.mail self.new.mail self.old.lost self.new.lost }
+        ensures same { self.new ≡ with_mail (with_lost self.old self.new.lost) self.new.mail }
     {
         let Ok(()) = self.mail.reserve(1) else {
+            self.lose();
             return;
         };
         self.mail.push_back_reserved(Outgoing::Standing(standing));
@@ -493,13 +537,23 @@ impl<B: Replicated> Host<B> {
             _ => return false,
         }
         if let Some(Outgoing::Letter(letter)) = self.mail.pop_front() {
-            let _lost = if self.keeper.has_journal() {
-                self.take_by_line(&letter)
-            } else {
-                self.take(letter, &[])
-            };
+            if self.take_own(letter).is_err() {
+                self.lose();
+            }
         }
         true
+    }
+
+    // Takes a letter from itself, by its line where there is a journal.
+    fn take_own(&mut self, letter: Letter) -> Result<(), HostError>
+        ensures ok { OnOk result (TakesLetter self.old letter self.new ⊎ TakesByLine self.old letter self.new) }
+        ensures err { OnErr result (self.new ≡ self.old) }
+    {
+        if self.keeper.has_journal() {
+            self.take_by_line(&letter)
+        } else {
+            self.take(letter, &[])
+        }
     }
 
     // Takes a letter by the line that is put of it.

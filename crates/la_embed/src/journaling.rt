@@ -6,17 +6,17 @@ ghost use Rattle.la_wire.specs.Calls.{called};
 ghost use Rattle.la_wire.specs.CallLines.{named_call, may_stand};
 ghost use Rattle.la_durable.specs.Nodes.{acts, kept_by, leaves_be};
 ghost use Rattle.la_durable.specs.Errors.{IsActRefusal};
-ghost use Rattle.la_embed.specs.Journals.{AllIsKept, LeadsTo, MakesRecord, head_unless, journal_with, journal_synced};
+ghost use Rattle.la_embed.specs.Journals.{AllIsKept, LeadsTo, MakesRecord, journal_with, journal_synced};
 ghost use Rattle.la_embed.specs.Journals.{IsRecovered, IsNotRecovered, IsRefusedOver, IsStagedBy};
 
 use crate::Unrecovered;
 use crate::journal::Journal;
 use crate::program_file::ProgramFile;
 use la_durable::{Input, NodeError, NodeMachine};
-use la_journal::{Contents, Record, Staged, Unstaged, laws, new_journal, recover};
+use la_journal::{Contents, Record, Staged, Unstaged, laws, recover};
 use la_node::{Config, Received};
 use la_wire::Call;
-use std::alloc::{AllocError, Global};
+use std::alloc::Global;
 
 impl Journal {
     /// Plays what was found in the program's file, and answers how many of its bytes the file is to keep.
@@ -31,7 +31,6 @@ impl Journal {
         ensures error { IfErr result (IsNotRecovered config own found.items) }
     {
         let machine = NodeMachine::new(alloc, config, own)?;
-        let head = head_for(alloc, &machine, &found)?;
         let file = ProgramFile {
             contents: Contents::found(&found, Record::of_another()),
         };
@@ -39,8 +38,7 @@ impl Journal {
         match recover(alloc, machine, found, file) {
             Ok(durable) => {
                 let keep = length.saturating_sub(durable.cut);
-                let mut staged = Staged::new(alloc, durable);
-                staged.written = head;
+                let staged = Staged::new(alloc, durable);
                 let journal = Journal {
                     staged,
                     config,
@@ -117,17 +115,6 @@ impl Journal {
         ensures kept { self.new.kept ≡ self.old.kept }
     {
         self.staged.written.clear();
-    }
-}
-
-// The head of a new journal, where nothing was found.
-fn head_for(alloc: Global, machine: &NodeMachine, found: &[u8]) -> Result<Vec<u8>, AllocError>
-    ensures { IfOk result (λ head. head.items ≡ head_unless found.now (kept_by machine.now)) }
-{
-    if found.is_empty() {
-        new_journal(alloc, machine)
-    } else {
-        Ok(Vec::new(alloc))
     }
 }
 

@@ -72,6 +72,8 @@ impl Absorbs for ElementList {
 
     ghost meaning = { list_meaning };
 
+    ghost full = { λ _ _. ⊥ };
+
     fn fresh(&self) -> bool {
         self.state.inserts.is_empty() && self.state.deleted.is_empty()
     }

@@ -3,3 +3,4 @@ pub mod Views
 pub mod Rows
 pub mod Runs
 pub mod Orders
+pub mod Fulls

@@ -9,6 +9,11 @@ abbrev pub either_state : {A B S T : Type 0} → (A → S) → (B → T) → Eit
 either_state f g (First a) = First (f a)
 either_state f g (Second b) = Second (g b)
 
+abbrev pub either_full : {S T : Type 0} → (S → Update → Type 0) → (T → Update → Type 0) → Either S T → Update
+    → Type 0
+either_full f g (First s) u = f s u
+either_full f g (Second t) u = g t u
+
 module _ {K S Q A L T R B : Type 0} (m : Meaning K S Q A) (n : Meaning L T R B) where
   abbrev pub either_start : Either K L → Either S T
   either_start (First k) = First (m.start k)

@@ -18,7 +18,7 @@ pub enum Either<A, B> {
 }
 
 impl<A: Absorbs, B: Absorbs> Absorbs for Either<A, B> {
-    ghost use Rattle.la_shelf.specs.Eithers.{either_state, either_meaning};
+    ghost use Rattle.la_shelf.specs.Eithers.{either_state, either_meaning, either_full};
     ghost use Rattle.la_shelf.specs.EitherLaws.{either_lawful};
 
     type Kind = Either<A::Kind, B::Kind>;
@@ -32,6 +32,8 @@ impl<A: Absorbs, B: Absorbs> Absorbs for Either<A, B> {
     ghost state = { either_state A.state B.state };
 
     ghost meaning = { either_meaning A.meaning B.meaning };
+
+    ghost full = { either_full A.full B.full };
 
     fn fresh(&self) -> bool {
         match self {

@@ -1,6 +1,6 @@
 -- A map from keys to counters: under each key the sum of what was added there that no reset of the
 -- key had seen. So adds win over resets that were made at the same time.
-use Rattle.std.specs.Prelude.{ℕ, zero, suc, ◌+◌, ◌==◌, nat_le, nat_lt, Bool, true, false, not, ◌&&◌, List, [], ◌∷◌}
+use Rattle.std.specs.Prelude.{ℕ, zero, suc, ◌+◌, ◌^◌, ◌≤◌, ◌==◌, IsSomeAnd, nat_le, nat_lt, Bool, true, false, not, ◌&&◌, List, [], ◌∷◌}
 use Rattle.std.specs.Prelude.{◌++◌, length, drop, slice_index, fold, replicate, Option, Some, None, if◌then◌else◌}
 use Rattle.std.specs.List.{list_any, sum_by}
 use Rattle.std.specs.Option.{option_and_then}
@@ -142,6 +142,10 @@ plus_amount sum k = sum + amount_of k.does
 
 abbrev pub all_amounts : KeptCounters → ℕ
 all_amounts s = fold_kept plus_amount 0 s
+
+-- a map takes an update no more: all amounts would be above what a u64 holds
+abbrev pub counter_full : KeptCounters → Update → Type 0
+counter_full s u = IsSomeAnd (counter_of u.op) (λ does. 2 ^ 64 ≤ all_amounts s + amount_of does)
 
 abbrev pub counter_meaning : Meaning (Unit {0}) KeptCounters (List ℕ) ℕ
 counter_meaning = record {

@@ -56,6 +56,14 @@ module _ {S Q A : Type 0} (m : Meaning (Unit {0}) S Q A) where
   with_part s None = s
   with_part s (Some part) = map.insert s part.0 (m.after (state_under s part.0) part.1)
 
+  -- the object under its key takes an update no more
+  abbrev pub part_full : (full : S → Update → Type 0) → KeyMap S → Option Part → Type 0
+  part_full full s None = ⊥
+  part_full full s (Some part) = full (state_under s part.0) part.1
+
+  abbrev pub keyed_full : (full : S → Update → Type 0) → KeyMap S → Update → Type 0
+  keyed_full full s u = part_full full s (part_of u)
+
   abbrev pub keyed_meaning : Meaning (Unit {0}) (KeyMap S) (List ℕ × Q) A
   keyed_meaning = record {
     start = λ kind. map.empty;

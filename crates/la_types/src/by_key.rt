@@ -1,8 +1,9 @@
-ghost use Rattle.std.specs.Prelude.{◌≡◌, ◌↔◌, true, Some, IsTrue, IfOk, OnOk, OnErr};
+ghost use Rattle.std.specs.Prelude.{◌≡◌, ◌↔◌, true, Some, IsTrue, IfOk, IfErr, OnOk, OnErr};
 ghost use Rattle.std.specs.Option.{option_copied};
 ghost use Rattle.std.specs.FinMap as map;
 ghost use Rattle.la_types.specs.KeyMaps.{map_values};
-ghost use Rattle.la_types.specs.KeyedObjects.{with_part};
+ghost use Rattle.la_types.specs.KeyedObjects.{part_full, with_part};
+ghost use Rattle.la_shelf.specs.Refusals.{IfFull};
 
 use crate::Begins;
 use la_set::Update;
@@ -78,6 +79,8 @@ impl<T: Begins> ByKey<T> {
         ensures ok { OnOk result (map_values T.state self.new
             ≡ with_part T.meaning (map_values T.state self.old) (Some (key.now, update.now))) }
         ensures err { OnErr result (map_values T.state self.new ≡ map_values T.state self.old) }
+        ensures full { IfErr result (λ why. IfFull why
+            (part_full T.meaning T.full (map_values T.state self.old) (Some (key.now, update.now)))) }
     {
         match self.of.get_mut(key) {
             Some(object) => object.absorb(update),

@@ -297,7 +297,7 @@ impl CounterMap {
 }
 
 impl Absorbs for CounterMap {
-    ghost use Rattle.la_types.specs.CounterMaps.{counter_meaning};
+    ghost use Rattle.la_types.specs.CounterMaps.{counter_meaning, counter_full};
     ghost use Rattle.la_types.specs.CounterMapLaws.{counter_lawful};
 
     type Kind = ();
@@ -311,6 +311,8 @@ impl Absorbs for CounterMap {
     ghost state = { λ m. m.state };
 
     ghost meaning = { counter_meaning };
+
+    ghost full = { counter_full };
 
     fn fresh(&self) -> bool {
         self.state.is_empty()

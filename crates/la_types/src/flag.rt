@@ -129,6 +129,8 @@ impl Absorbs for Flag {
 
     ghost meaning = { flag_meaning };
 
+    ghost full = { λ _ _. ⊥ };
+
     fn fresh(&self) -> bool {
         self.state.enabled == Counts::zero() && self.state.seen == Counts::zero()
     }

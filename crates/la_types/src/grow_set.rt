@@ -49,6 +49,8 @@ impl Absorbs for GrowSet {
 
     ghost meaning = { grow_set_meaning };
 
+    ghost full = { λ _ _. ⊥ };
+
     fn fresh(&self) -> bool {
         self.elements.is_empty()
     }

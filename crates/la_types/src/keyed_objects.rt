@@ -2,7 +2,8 @@ ghost use Rattle.std.specs.Prelude.{◌≡◌, Some, IfOk, IfErr, IfSome, OnOk, 
 ghost use Rattle.std.specs.FinMap as map;
 ghost use Rattle.la_own.specs.Own.{own, own_bytes_of};
 ghost use Rattle.la_types.specs.KeyMaps.{map_values};
-ghost use Rattle.la_types.specs.KeyedObjects.{part_bytes, part_in, with_part};
+ghost use Rattle.la_types.specs.KeyedObjects.{part_bytes, part_in, part_full, with_part};
+ghost use Rattle.la_shelf.specs.Refusals.{IfFull};
 ghost use Rattle.la_types.specs.Refusals.{IsUnderRefusal, passed_under};
 
 use crate::Bytes;
@@ -104,6 +105,8 @@ impl<T: Begins> Keyed<T> {
         ensures ok { OnOk result (map_values T.state self.new.objects
             ≡ with_part T.meaning (map_values T.state self.old.objects) (Some (key.now, update.now))) }
         ensures err { OnErr result (map_values T.state self.new.objects ≡ map_values T.state self.old.objects) }
+        ensures full { IfErr result (λ why. IfFull why
+            (part_full T.meaning T.full (map_values T.state self.old.objects) (Some (key.now, update.now)))) }
     {
         if self.objects.has(key) {
             return self.objects.absorb_at(key, update);
@@ -121,7 +124,7 @@ where
     T::State: Drop,
 {
     ghost use Rattle.la_types.specs.KeyMaps.{map_values};
-    ghost use Rattle.la_types.specs.KeyedObjects.{keyed_meaning};
+    ghost use Rattle.la_types.specs.KeyedObjects.{keyed_meaning, keyed_full};
     ghost use Rattle.la_types.specs.KeyedObjectLaws.{keyed_lawful};
 
     type Kind = ();
@@ -135,6 +138,8 @@ where
     ghost state = { λ k. map_values T.state k.objects };
 
     ghost meaning = { keyed_meaning T.meaning };
+
+    ghost full = { keyed_full T.meaning T.full };
 
     fn fresh(&self) -> bool {
         self.objects.is_empty()

@@ -170,6 +170,8 @@ impl Absorbs for MultiRegister {
 
     ghost meaning = { multi_meaning };
 
+    ghost full = { λ _ _. ⊥ };
+
     fn fresh(&self) -> bool {
         self.state.last.is_empty() && self.state.seen == Counts::zero()
     }

@@ -45,6 +45,8 @@ impl Absorbs for Register {
 
     ghost meaning = { register_meaning };
 
+    ghost full = { λ _ _. ⊥ };
+
     fn fresh(&self) -> bool {
         self.last.is_none()
     }

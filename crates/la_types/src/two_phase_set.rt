@@ -93,6 +93,8 @@ impl Absorbs for TwoPhaseSet {
 
     ghost meaning = { two_phase_meaning };
 
+    ghost full = { λ _ _. ⊥ };
+
     fn fresh(&self) -> bool {
         self.state.present.is_empty() && self.state.removed.is_empty()
     }

@@ -76,6 +76,8 @@ impl Absorbs for WriteMap {
 
     ghost meaning = { write_map_meaning };
 
+    ghost full = { λ _ _. ⊥ };
+
     fn fresh(&self) -> bool {
         self.last.is_empty()
     }

@@ -5,3 +5,4 @@ pub mod Calls
 pub mod Learning
 pub mod Numbered
 pub mod Starting
+pub mod Journals

@@ -6,6 +6,7 @@
 
 mod asking;
 mod handle;
+mod journal;
 mod learning;
 mod lending;
 mod mail;
@@ -19,6 +20,7 @@ pub use asking::{
     lattice_at_least, lattice_has, lattice_items, lattice_largest, lattice_size, lattice_total,
 };
 pub use handle::{Handle, Place};
+pub use journal::lattice_first_journal;
 pub use learning::{Learnt, lattice_known, lattice_next_learnt, lattice_submitted, lattice_view};
 pub use mail::{lattice_again, lattice_next_mail, lattice_receive};
 pub use recording::{lattice_next_record, lattice_synced};

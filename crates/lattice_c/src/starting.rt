@@ -17,13 +17,13 @@ use std::alloc::Global;
 /// The version of this interface: it grows where a call changes or goes.
 #[unsafe(no_mangle)]
 pub extern "C" fn lattice_version() -> u32
-    ensures { result ≡ 2 }
+    ensures { result ≡ 3 }
 {
-    2
+    3
 }
 
 // The votes of a group: these, or one for each replica where there are none.
-fn votes_of(replicas: u8, votes: &[u16]) -> Option<Votes>
+pub(crate) fn votes_of(replicas: u8, votes: &[u16]) -> Option<Votes>
     ensures { AreGivenVotes replicas votes.now result }
 {
     if !votes.is_empty() {
@@ -76,8 +76,8 @@ pub extern "C" fn lattice_node_new(
 }
 
 /// Makes the same replica of the same group as before of what was found in its journal, and puts it into a place, which
-/// then is a handle. No byte at all is a new journal. Told is how many of the bytes the journal is to keep: behind them
-/// stands what a crash left of a record, which is to be cut off, on the disk, before anything is put behind. Objects are
+/// then is a handle. No byte at all is no journal: the first bytes of a new one are `lattice_first_journal`'s. Told is how
+/// many of the bytes the journal is to keep: behind them stands what a crash left of a record, which is to be cut off, on the disk, before anything is put behind. Objects are
 /// added anew, and all updates are handed over anew.
 ///
 /// What was found counts as kept, and the node may tell at once what it leads to. But what can be read from a file need

@@ -29,7 +29,8 @@ returns-clause-step g c =
         mail =
             let sent = c.in_ok-done.field-0.done.mail in
             let new = c.post.new.self in
-            subst (λ kept. IsPosted c.self.inside.links kept sent c.self.inside.mail.items new.mail new.links)
+            subst (λ kept. IsPosted c.self.inside.links kept sent c.self.inside.mail.items new.mail new.links
+            c.self.inside.lost new.lost)
             (sym (ap (λ (h : HostState). h.kept) c.post.ensures.same)) c.post.ensures.mail;
         shelf = ap (λ (h : HostState). h.shelf) c.post.ensures.same;
         handed = ap (λ (h : HostState). h.handed) c.post.ensures.same;

@@ -19,6 +19,7 @@ returns-clause-ok g c =
       shelf = inside.shelf;
       links = inside.links;
       mail = inside.mail.items;
+      lost = inside.lost;
       handed = inside.handed;
       journal = journal_in inside.keeper;
     } in
