@@ -101,16 +101,16 @@ impl<B: Replicated> Host<B> {
 
     /// The same replica of the same group as before, by what is found in its journal: a file of the program's, which
     /// has the calls that the node took. It answers how many of these bytes the file is to keep; where they are fewer,
-    /// a crash left the rest of a record that was not told to be on the disk. No byte at all is a new journal. Objects,
-    /// what was heard and what was handed on are not kept. Linear in the bytes, which are let go.
+    /// a crash left the rest of a record that was not told to be on the disk. No byte at all is no journal: a new one
+    /// begins with the bytes of [`first_journal`](la_durable::first_journal), once. Objects, what was heard and what was
+    /// handed on are not kept. Linear in the bytes, which are let go.
     ///
     /// What was found counts as kept: over a whole journal the host may tell at once what that leads to. But what a
     /// program reads from its file need not be on the disk yet, if the process that wrote it was killed before its
     /// sync. So the program syncs the file before it asks the host anything, or puts a new one in its place.
     ///
     /// From then on nothing may be told before it is on the disk: the program puts what [`Host::make_record`] makes
-    /// behind the file's bytes, has it on the disk, and says so by [`Host::synced`]. The first record of a new journal
-    /// is to be put in place at once, as by renaming a file that has it.
+    /// behind the file's bytes, has it on the disk, and says so by [`Host::synced`].
     ///
     /// `Group` comes as the errors of [`Host::new`], `Journal` where the bytes are no journal of this replica, are
     /// damaged, or want memory, and else `Memory`.

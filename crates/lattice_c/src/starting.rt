@@ -76,9 +76,9 @@ pub extern "C" fn lattice_node_new(
 }
 
 /// Makes the same replica of the same group as before of what was found in its journal, and puts it into a place, which
-/// then is a handle. No byte at all is no journal: the first bytes of a new one are `lattice_first_journal`'s. Told is how
-/// many of the bytes the journal is to keep: behind them stands what a crash left of a record, which is to be cut off, on the disk, before anything is put behind. Objects are
-/// added anew, and all updates are handed over anew.
+/// then is a handle. No byte at all is no journal: the first bytes of a new one are `lattice_first_journal`'s. Told is
+/// how many of the bytes the journal is to keep: behind them stands what a crash left of a record, which is to be cut
+/// off, on the disk, before anything is put behind. Objects are added anew, and all updates are handed over anew.
 ///
 /// What was found counts as kept, and the node may tell at once what it leads to. But what can be read from a file need
 /// not be on the disk yet, if the process that wrote it was killed before its sync. So sync the file first, or put a
