@@ -1,5 +1,7 @@
 pub mod Turning
+pub mod CommandRules
 pub mod OptionLines
+pub mod MakingLines
 pub mod VoteTexts
 pub mod OwnNumbers
 pub mod ObjectTexts

@@ -83,5 +83,5 @@ pub record IsMakingSaid (words : List Text) (said : Option Making) : Type 0 wher
 abbrev pub IsNotMade : Config → (own : ℕ) → NodeFault → Type 0
 IsNotMade config own BadConfig =
     IsStartRefusal config own empty_shelf world.BadConfig ⊎ IsStartRefusal config own empty_shelf world.NoSuchReplica
-IsNotMade config own Memory = ⊤
-IsNotMade config own _ = ⊥
+IsNotMade _ _ Memory = ⊤
+IsNotMade _ _ _ = ⊥

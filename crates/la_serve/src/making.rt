@@ -1,5 +1,5 @@
 // What the words of `lattice init` say, and the journal that a folder begins with.
-ghost use Rattle.std.specs.Prelude.{◌≡◌, ◌⊎◌, false, map, codes, string_bytes, IfOk, IfErr, Some};
+ghost use Rattle.std.specs.Prelude.{◌≡◌, false, map, codes, string_bytes, IfOk, IfErr, Some, []};
 ghost use Rattle.clap.specs.Words.{app_of, found_of, rows_of, HasKind, fault_of, with_rule, with_subcommand};
 ghost use Rattle.clap.specs.declared.builder.command.Command.TheViews.{out-Command as fields_of};
 ghost use Rattle.la_journal.specs.Durable.{EndsInGroups};

@@ -3,7 +3,7 @@ use Rattle.std.specs.Str.Parse.{ParsesUnsigned, ExplainsUnsignedError, HasUnsign
 use Rattle.clap.specs.Words.{found_of, rows_of}
 use Rattle.clap.proofs.WalkLemmas.{first_value-rows}
 use Rattle.la_cli.proofs.lemmas.GivenNumbers.{some_number, taken_is_given}
-use Rattle.la_serve.proofs.OptionLines.{first_there, some_text}
+use Rattle.la_serve.proofs.CommandRules.{first_there, some_text}
 use Rattle.la_serve.proofs.options.options_in.Goals as goal
 
 pub unwrap-replicas-requires : goal.unwrap-replicas-requires
