@@ -350,6 +350,8 @@ module _ {D R W E : Type 0} (f : Facts D R W E) (first : Point D E) where
         step_cut fault.Memory (inl r) = ([], none_cut r.0 r.1, tt)
         step_cut fault.Memory (inr r) = ((one_cut r).0, (one_cut r).1, tt)
         step_cut fault.BadConfig r = absurd r
+        step_cut fault.NoJournal r = absurd r
+        step_cut fault.JournalThere r = absurd r
         step_cut fault.Locked r = absurd r
         step_cut (fault.BadJournal line) r = absurd r
         step_cut (fault.OtherOptions option) r = absurd r
@@ -522,6 +524,8 @@ module _ {D R W E : Type 0} (f : Facts D R W E) (first : Point D E) where
         unflushed fault.WriteFault r = serves_some AppendsPrefix (front r.front) r.commits r.given
         unflushed fault.ReadFault r = absurd r
         unflushed fault.BadConfig r = absurd r
+        unflushed fault.NoJournal r = absurd r
+        unflushed fault.JournalThere r = absurd r
         unflushed fault.Locked r = absurd r
         unflushed (fault.BadJournal line) r = absurd r
         unflushed (fault.OtherOptions option) r = absurd r
@@ -534,6 +538,8 @@ module _ {D R W E : Type 0} (f : Facts D R W E) (first : Point D E) where
       then_refused fault.WriteFault m w = serves_some AppendsPrefix (front (all_front w.wrote)) w.commits w.given
       then_refused fault.Memory m w = serves_some AppendsPrefix (front (all_front w.wrote)) w.commits w.given
       then_refused fault.BadConfig m w = absurd m
+      then_refused fault.NoJournal m w = absurd m
+      then_refused fault.JournalThere m w = absurd m
       then_refused fault.Locked m w = absurd m
       then_refused (fault.BadJournal line) m w = absurd m
       then_refused (fault.OtherOptions option) m w = absurd m

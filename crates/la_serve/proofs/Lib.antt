@@ -1,8 +1,11 @@
 pub mod Turning
+pub mod CommandRules
 pub mod OptionLines
+pub mod MakingLines
 pub mod VoteTexts
 pub mod OwnNumbers
 pub mod ObjectTexts
+pub mod UnfitTexts
 pub mod Turns
 pub mod TakenLines
 pub mod Fits

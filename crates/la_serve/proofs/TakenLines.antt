@@ -44,6 +44,8 @@ module _ (Is More : (before after : Io) → Turn → Type 0) {Told ToldMore : Li
   breaks_more fault.WriteFault b = takes_more AppendsPrefix b
   breaks_more fault.Memory b = takes_more AppendsPrefix b
   breaks_more fault.BadConfig b = b
+  breaks_more fault.NoJournal b = b
+  breaks_more fault.JournalThere b = b
   breaks_more fault.Locked b = b
   breaks_more (fault.BadJournal line) b = b
   breaks_more (fault.OtherOptions option) b = b

@@ -2,7 +2,7 @@ use Rattle.std.proofs.Common.{◌∙◌, ap, true}
 use Rattle.clap.specs.Simple.{app_of_fields}
 use Rattle.clap.specs.declared.builder.command.Command.{Command}
 use Rattle.clap.specs.declared.builder.command.Command.TheOpen.{Command-F}
-use Rattle.la_serve.proofs.OptionLines.{requires_one}
+use Rattle.la_serve.proofs.CommandRules.{requires_one}
 use Rattle.la_serve.proofs.options.alone.Goals as goal
 
 pub returns : goal.returns

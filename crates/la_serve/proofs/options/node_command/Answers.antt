@@ -7,7 +7,7 @@ use Rattle.clap.specs.declared.builder.command.Command.TheOpen.{Command-F}
 use Rattle.clap.specs.declared.builder.command.Command.TheViews.{out-Command}
 use Rattle.la_cli.specs.Calls.{option}
 use Rattle.la_serve.specs.Options.{journal_option, node_named, objects_option, own, votes_option}
-use Rattle.la_serve.proofs.OptionLines.{versioned}
+use Rattle.la_serve.proofs.CommandRules.{versioned}
 use Rattle.la_serve.proofs.options.node_command.Goals as goal
 
 pub returns-clause-app : goal.returns-clause-app

@@ -2,7 +2,7 @@ use Rattle.std.proofs.Common.{rules, ◌≡◌, ◌∙◌, ap, false}
 use Rattle.std.proofs.lemmas.Result.{IfOk-weaker}
 use Rattle.clap.specs.Words.{app_of, rule_of, with_rule}
 use Rattle.la_serve.specs.Options.{objects_option}
-use Rattle.la_serve.proofs.OptionLines.{stays_local}
+use Rattle.la_serve.proofs.CommandRules.{stays_local}
 use Rattle.la_serve.proofs.options.with_objects.Goals as goal
 
 pub returns-clause-app : goal.returns-clause-app

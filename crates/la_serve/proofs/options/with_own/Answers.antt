@@ -1,7 +1,7 @@
 use Rattle.std.proofs.Common.{◌≡◌, ◌∙◌, ap, false, true}
 use Rattle.std.proofs.lemmas.Result.{IfOk-weaker}
 use Rattle.clap.specs.Words.{Rule, app_of, rule_of, with_rule}
-use Rattle.la_serve.proofs.OptionLines.{stays_local}
+use Rattle.la_serve.proofs.CommandRules.{stays_local}
 use Rattle.la_serve.proofs.options.with_own.Goals as goal
 
 pub returns-clause-app : goal.returns-clause-app

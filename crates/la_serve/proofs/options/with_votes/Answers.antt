@@ -4,7 +4,7 @@ use Rattle.std.proofs.lemmas.Result.{IfOk-weaker}
 use Rattle.clap.specs.Words.{Rule, app_of, rule_of, with_rule}
 use Rattle.clap.specs.declared.builder.range.ValueRange.{ValueRange}
 use Rattle.la_serve.specs.Options.{number_option}
-use Rattle.la_serve.proofs.OptionLines.{stays_local}
+use Rattle.la_serve.proofs.CommandRules.{stays_local}
 use Rattle.la_serve.proofs.options.with_votes.Goals as goal
 
 some_range : (o : Option ValueRange) (q : ValueRange) → IsSomeAnd o (λ r. r ≡ q) → o ≡ Some q
