@@ -13,11 +13,11 @@ use Rattle.clap.specs.Values.{is_request, read_as}
 use Rattle.clap.specs.Words.{AddsArg, Text, Row, Rule, fault_of, first_of, is_simple, is_simple_and_free, one_of}
 use Rattle.clap.specs.Words.{subcommand_of}
 use Rattle.clap.specs.Takes.{is_given}
-use Rattle.clap.specs.Walk.{action_of, answers_to, finished, has_row, nothing_held, row_text, rows_after, settled}
+use Rattle.clap.specs.Walk.{action_of, answers_to, has_row, nothing_held, row_text, rows_after, settled}
 use Rattle.clap.specs.Walk.{stop_after, walk, walk_from}
 use Rattle.clap.specs.Simple.{App, Shape, argument_words, built, entered, label_of, names_of, rows_at}
 use Rattle.clap.specs.Kinds.{check_kinds}
-use Rattle.clap.specs.Faults.{check_fault, defaults_fault, entered_fault, level_fault, settle_fault, walk_fault}
+use Rattle.clap.specs.Faults.{defaults_fault, entered_fault, level_fault, settle_fault, walk_fault}
 use Rattle.clap.specs.declared.builder.action.ArgAction.{ArgAction}
 use Rattle.clap.specs.declared.builder.action.ArgAction.TheVariants as action
 use Rattle.clap.specs.declared.builder.arg.Arg.{Arg}

@@ -5,6 +5,7 @@ pub mod MakingLines
 pub mod VoteTexts
 pub mod OwnNumbers
 pub mod ObjectTexts
+pub mod UnfitTexts
 pub mod Turns
 pub mod TakenLines
 pub mod Fits

@@ -1,11 +1,11 @@
 -- What the matches of a command line of `lattice init` say of its options.
-use Rattle.std.proofs.Common.{◌≡◌, ℕ, List, Option, Some, None, true, false, refl, codes, [], ◌∷◌, not, drop, take}
+use Rattle.std.proofs.Common.{◌≡◌, ℕ, List, Option, Some, None, true, false, refl, codes, [], not, drop, take}
 use Rattle.std.proofs.Common.{option_map}
 use Rattle.std.specs.List.{slice_index_or}
 use Rattle.clap.specs.Words.{Text, Row, Rule, fault_of, is_simple, is_simple_and_free, subcommand_of}
 use Rattle.clap.proofs.OnLiterals.{clap_on_literals}
 use Rattle.clap.specs.Takes.{is_given}
-use Rattle.clap.specs.Walk.{Held, finished, nothing_held, rows_after, settled, walk}
+use Rattle.clap.specs.Walk.{Held, nothing_held, rows_after, settled, walk}
 use Rattle.clap.specs.Simple.{App, Shape, built, filled, new_shape, with_index}
 use Rattle.clap.specs.Faults.{level_fault}
 use Rattle.la_cli.proofs.lemmas.Faultless.{AllOne, defaults_there, level_reads}
@@ -99,10 +99,12 @@ module _ (words : List Text) (faultless : level_fault shape [] nothing_held word
       let folder = level_reads folder_rule shape [] words false [] folder_alone
       (not_missing (codes "folder") rows both_given.1) faultless in
       record {
-        replicas = record { text = replicas.0; given = replicas.1; passed = replicas.2 };
-        own = record { text = own.0; given = own.1; passed = own.2 };
-        commits = record { text = commits.0; given = commits.1; passed = commits.2 };
-        cap = record { text = cap.0; given = cap.1; passed = cap.2 };
+        group = record {
+          replicas = record { text = replicas.0; given = replicas.1; passed = replicas.2 };
+          own = record { text = own.0; given = own.1; passed = own.2 };
+          commits = record { text = commits.0; given = commits.1; passed = commits.2 };
+          cap = record { text = cap.0; given = cap.1; passed = cap.2 };
+        };
         folder = (_, folder.1);
       }
 
@@ -113,13 +115,14 @@ unfolding clap_on_literals
 faultless_init = names_one lattice_init shape (shape_at 1) refl refl AreMakingOptions all_taken refl refl
 
 -- what the matches of a program say that was made as this one
-pub making_read : (made : App) (words : List Text) → made ≡ lattice_init → {X : Type 0} (o : Option (Text × List Row))
-    → (is_simple made ≡ true → X × (o ≡ subcommand_of made words))
+pub making_read : (made : App) (words : List Text) → made ≡ lattice_init → {X : Type 0}
+    (o : Option (Text × List Row)) → (is_simple made ≡ true → X × (o ≡ subcommand_of made words))
     → (is_simple_and_free made ≡ true → fault_of made words ≡ []) → (rows : List Row)
     → option_map (λ p. p.1) o ≡ Some rows → IsRead lattice_init (codes "init") AreMakingOptions words rows
 making_read = is_read lattice_init (codes "init") AreMakingOptions lattice_is_simple lattice_is_free faultless_init
 
-pub making_entered : (made : App) (words : List Text) → made ≡ lattice_init → {X : Type 0} (o : Option (Text × List Row))
-    → (is_simple made ≡ true → X × (o ≡ subcommand_of made words))
+pub making_entered : (made : App) (words : List Text) → made ≡ lattice_init → {X : Type 0}
+    (o : Option (Text × List Row)) → (is_simple made ≡ true → X × (o ≡ subcommand_of made words))
     → (is_simple_and_free made ≡ true → fault_of made words ≡ []) → None ≡ option_map (λ p. p.1) o → ⊥
-making_entered = is_entered lattice_init (codes "init") AreMakingOptions lattice_is_simple lattice_is_free faultless_init
+making_entered =
+    is_entered lattice_init (codes "init") AreMakingOptions lattice_is_simple lattice_is_free faultless_init

@@ -1,14 +1,52 @@
 -- The objects that a text says, part by part.
 use Rattle.std.proofs.Common.{◌≡◌, ◌∙◌, ℕ, Bool, true, false, cond, List, [], ◌∷◌, ◌++◌, Option, Some, None, refl}
-use Rattle.std.proofs.Common.{sym, ap}
+use Rattle.std.proofs.Common.{sym, ap, inl, inr}
+use Rattle.std.specs.Prelude.{◌==◌}
+use Rattle.std.specs.List.{slice_split}
 use Rattle.std.proofs.Common.{true≢false, option_map}
 use Rattle.std.specs.Borrow.{Bor}
 use Rattle.std.specs.Iterator.{AlwaysYields}
 use Rattle.std.specs.Option.{option_and_then}
 use Rattle.la_object.specs.declared.kind.Kind.{Kind}
+use Rattle.la_serve.specs.declared.unfit.UnfitObjects.{UnfitObjects}
 use Rattle.la_serve.specs.Objects.{are_for_a_shelf, object_in, objects_in}
+use Rattle.la_serve.specs.Objects.{IsFirstUnfit, IsNoObject, IsUnfitObject, IsUnfitPart}
+use Rattle.la_cli.proofs.lemmas.GivenNumbers.{some_is, some≢none}
 use Rattle.la_script.specs.Words.{each_word}
 use Rattle.la_serve.proofs.OwnNumbers.{front_for_a_shelf}
+
+-- one more part, of which one is read
+each_more : (before : List (List ℕ)) (part : List ℕ) (os : List (ℕ × Kind)) (o : ℕ × Kind)
+    → each_word object_in before ≡ Some os → object_in part ≡ Some o
+    → each_word object_in (before ++ part ∷ []) ≡ Some (os ++ o ∷ [])
+each_more [] part os o said is = rw is (ap (λ (xs : List (ℕ × Kind)). Some (xs ++ o ∷ [])) (some_is _ _ said))
+each_more (first ∷ before) part os o said is =
+    by_first (λ xs e. each_more before part xs o e is) (object_in first) said
+  where
+    by_rest : ((xs : List (ℕ × Kind)) → each_word object_in before ≡ Some xs
+        → each_word object_in (before ++ part ∷ []) ≡ Some (xs ++ o ∷ []))
+        → (x : ℕ × Kind) (rest : Option (List (ℕ × Kind))) → each_word object_in before ≡ rest
+        → option_map (λ xs. x ∷ xs) rest ≡ Some os
+        → option_map (λ xs. x ∷ xs) (each_word object_in (before ++ part ∷ [])) ≡ Some (os ++ o ∷ [])
+    by_rest more x None rest e = absurd (some≢none _ (sym e))
+    by_rest more x (Some xs) rest e =
+        ap (option_map (λ ys. x ∷ ys)) (more xs rest)
+        ∙ ap (λ (ys : List (ℕ × Kind)). Some (ys ++ o ∷ [])) (some_is _ _ e)
+
+    by_first : ((xs : List (ℕ × Kind)) → each_word object_in before ≡ Some xs
+        → each_word object_in (before ++ part ∷ []) ≡ Some (xs ++ o ∷ []))
+        → (x : Option (ℕ × Kind))
+        → option_and_then (λ x. option_map (λ xs. x ∷ xs) (each_word object_in before)) x ≡ Some os
+        → option_and_then (λ x. option_map (λ xs. x ∷ xs) (each_word object_in (before ++ part ∷ []))) x
+        ≡ Some (os ++ o ∷ [])
+    by_first more None e = absurd (some≢none _ (sym e))
+    by_first more (Some x) e = by_rest more x (each_word object_in before) refl e
+
+-- parts with one more behind them
+moved : (before : List (List ℕ)) (part : List ℕ) (left : List (List ℕ))
+    → before ++ part ∷ left ≡ (before ++ part ∷ []) ++ left
+moved [] part left = refl
+moved (first ∷ before) part left = ap (λ xs. first ∷ xs) (moved before part left)
 
 -- objects of which some were read, where the rest is said by these parts
 abbrev pub behind : List (ℕ × Kind) → (left : List (List ℕ)) → Option (List (ℕ × Kind))
@@ -63,23 +101,37 @@ behind_all os fits = rw (with_end os, fits) refl
 module _ {S : Type 0} (steps : S → Option (Bor (List ℕ)) → S → Type 0) (text : List ℕ) where
   -- these objects were read, and these parts are left
   pub record ReadsOn (it : S) (os : List (ℕ × Kind)) : Type 0 where
+    pub before : List (List ℕ)
     pub left : List (List ℕ)
+    pub parts : slice_split (λ b. b == 44) text ≡ before ++ left
     pub yields : AlwaysYields steps (λ x. x.now) it left
+    pub read : each_word object_in before ≡ Some os
     pub said : objects_in text ≡ behind os left
     pub fits : are_for_a_shelf os ≡ true
 
-  -- the part that comes next is the first of those that are left
-  next_part : (it then : S) (x : Bor (List ℕ)) (os : List (ℕ × Kind)) → ReadsOn it os → steps it (Some x) then
-      → (left : List (List ℕ)) × AlwaysYields steps (λ x. x.now) then left × (objects_in text ≡ behind os (x.now ∷ left))
-  next_part it then x os r step = go r.left r.yields r.said
+  -- a part is the first of those that are left
+  record NextPart (then : S) (part : List ℕ) (before : List (List ℕ)) (os : List (ℕ × Kind)) : Type 0 where
+    left : List (List ℕ)
+    parts : slice_split (λ b. b == 44) text ≡ before ++ part ∷ left
+    yields : AlwaysYields steps (λ x. x.now) then left
+    said : objects_in text ≡ behind os (part ∷ left)
+
+  -- the part that comes next is
+  next_part : (it then : S) (x : Bor (List ℕ)) (os : List (ℕ × Kind)) (r : ReadsOn it os) → steps it (Some x) then
+      → NextPart then x.now r.before os
+  next_part it then x os r step = go r.left r.parts r.yields r.said
     where
-      go : (left : List (List ℕ)) → AlwaysYields steps (λ x. x.now) it left → objects_in text ≡ behind os left
-          → (left : List (List ℕ)) × AlwaysYields steps (λ x. x.now) then left
-          × (objects_in text ≡ behind os (x.now ∷ left))
-      go [] yields said = absurd (yields x then step)
-      go (part ∷ left) yields said =
-          let is = yields.1 x then step in
-          (left, is.1, said ∙ ap (λ p. behind os (p ∷ left)) (sym is.0))
+      go : (left : List (List ℕ)) → slice_split (λ b. b == 44) text ≡ r.before ++ left
+          → AlwaysYields steps (λ x. x.now) it left → objects_in text ≡ behind os left
+          → NextPart then x.now r.before os
+      go [] parts yields said = absurd (yields x then step)
+      go (part ∷ left) parts yields said =
+          let is = yields.1 x then step in record {
+            left = left;
+            parts = parts ∙ ap (λ p. r.before ++ p ∷ left) (sym is.0);
+            yields = is.1;
+            said = said ∙ ap (λ p. behind os (p ∷ left)) (sym is.0);
+          }
 
   -- a part of which one is read that is for a shelf beside the others
   pub reads_next : (it then : S) (x : Bor (List ℕ)) (os now : List (ℕ × Kind)) (o : ℕ × Kind) → ReadsOn it os
@@ -87,25 +139,47 @@ module _ {S : Type 0} (steps : S → Option (Bor (List ℕ)) → S → Type 0) (
       → ReadsOn then now
   reads_next it then x os now o r step is fits added =
       let next = next_part it then x os r step in record {
-        left = next.0;
-        yields = next.1;
-        said = next.2 ∙ behind_one os o x.now next.0 is ∙ ap (λ xs. behind xs next.0) (sym added);
+        before = r.before ++ x.now ∷ [];
+        left = next.left;
+        parts = next.parts ∙ moved r.before x.now next.left;
+        yields = next.yields;
+        read = each_more r.before x.now os o r.read is ∙ ap Some (sym added);
+        said = next.said ∙ behind_one os o x.now next.left is ∙ ap (λ xs. behind xs next.left) (sym added);
         fits = ap are_for_a_shelf added ∙ fits;
+      }
+
+  -- a part that does not fit
+  unfit_next : (it then : S) (x : Bor (List ℕ)) (os : List (ℕ × Kind)) → ReadsOn it os → steps it (Some x) then
+      → (why : UnfitObjects) → IsUnfitPart os x.now why → IsFirstUnfit text why
+  unfit_next it then x os r step why unfit =
+      let next = next_part it then x os r step in record {
+        before = r.before;
+        part = x.now;
+        behind = next.left;
+        parts = next.parts;
+        objects = os;
+        said = r.read;
+        fit = r.fits;
+        unfit = unfit;
       }
 
   -- a part of which no object is read
   pub reads_none : (it then : S) (x : Bor (List ℕ)) (os : List (ℕ × Kind)) → ReadsOn it os → steps it (Some x) then
-      → object_in x.now ≡ None → objects_in text ≡ None
-  reads_none it then x os r step none =
-      let next = next_part it then x os r step in next.2 ∙ behind_none os x.now next.0 none
+      → object_in x.now ≡ None → (why : UnfitObjects) → IsNoObject x.now why
+      → (objects_in text ≡ None) × IsFirstUnfit text why
+  reads_none it then x os r step none why no_object =
+      let next = next_part it then x os r step in
+      (next.said ∙ behind_none os x.now next.left none, unfit_next it then x os r step why (inl no_object))
 
   -- or one that is not for a shelf beside the others
   pub reads_unfit : (it then : S) (x : Bor (List ℕ)) (os : List (ℕ × Kind)) (o : ℕ × Kind) → ReadsOn it os
       → steps it (Some x) then → object_in x.now ≡ Some o → are_for_a_shelf (os ++ o ∷ []) ≡ false
-      → objects_in text ≡ None
-  reads_unfit it then x os o r step is unfit =
-      let next = next_part it then x os r step in
-      next.2 ∙ behind_one os o x.now next.0 is ∙ behind_unfit (os ++ o ∷ []) next.0 unfit
+      → (why : UnfitObjects) → IsUnfitObject os o.0 why → (objects_in text ≡ None) × IsFirstUnfit text why
+  reads_unfit it then x os o r step is unfit why because =
+      let next = next_part it then x os r step in (
+        next.said ∙ behind_one os o x.now next.left is ∙ behind_unfit (os ++ o ∷ []) next.left unfit,
+        unfit_next it then x os r step why (inr (o, is, because)),
+      )
 
   -- all parts were read
   pub reads_all : (it then : S) (os : List (ℕ × Kind)) → ReadsOn it os → steps it None then

@@ -5,7 +5,7 @@ use Rattle.std.specs.List.{slice_index_or}
 use Rattle.clap.specs.Words.{Text, Row, Rule, fault_of, is_simple, is_simple_and_free, subcommand_of}
 use Rattle.clap.proofs.OnLiterals.{clap_on_literals}
 use Rattle.clap.specs.Takes.{is_given}
-use Rattle.clap.specs.Walk.{Held, finished, nothing_held, rows_after, settled, walk}
+use Rattle.clap.specs.Walk.{Held, nothing_held, rows_after, settled, walk}
 use Rattle.clap.specs.Simple.{App, Shape, built, filled, new_shape}
 use Rattle.clap.specs.Faults.{level_fault}
 use Rattle.la_cli.proofs.lemmas.Faultless.{AllOne, defaults_there, level_reads}
@@ -66,27 +66,27 @@ replicas_alone = alone_among replicas_rule [] (drop 1 rules) refl refl refl
 
 own_alone : AllOne own_rule rules
 unfolding clap_on_literals
-own_alone = alone_among own_rule (replicas_rule ∷ []) (drop 2 rules) refl refl refl
+own_alone = alone_among own_rule (take 1 rules) (drop 2 rules) refl refl refl
 
 commits_alone : AllOne commits_rule rules
 unfolding clap_on_literals
-commits_alone = alone_among commits_rule (replicas_rule ∷ own_rule ∷ []) (drop 3 rules) refl refl refl
+commits_alone = alone_among commits_rule (take 2 rules) (drop 3 rules) refl refl refl
 
 cap_alone : AllOne cap_rule rules
 unfolding clap_on_literals
-cap_alone = alone_among cap_rule (replicas_rule ∷ own_rule ∷ commits_rule ∷ []) (drop 4 rules) refl refl refl
+cap_alone = alone_among cap_rule (take 3 rules) (drop 4 rules) refl refl refl
 
 tick_alone : AllOne tick_rule rules
 unfolding clap_on_literals
-tick_alone = alone_among tick_rule (replicas_rule ∷ own_rule ∷ commits_rule ∷ cap_rule ∷ []) (drop 5 rules) refl refl refl
+tick_alone = alone_among tick_rule (take 4 rules) (drop 5 rules) refl refl refl
 
 compact_alone : AllOne compact_rule rules
 unfolding clap_on_literals
-compact_alone = alone_among compact_rule (replicas_rule ∷ own_rule ∷ commits_rule ∷ cap_rule ∷ tick_rule ∷ []) (drop 6 rules) refl refl refl
+compact_alone = alone_among compact_rule (take 5 rules) (drop 6 rules) refl refl refl
 
 objects_alone : AllOne objects_rule rules
 unfolding clap_on_literals
-objects_alone = alone_among objects_rule (replicas_rule ∷ own_rule ∷ commits_rule ∷ cap_rule ∷ tick_rule ∷ compact_rule ∷ []) (drop 7 rules) refl refl refl
+objects_alone = alone_among objects_rule (take 6 rules) (drop 7 rules) refl refl refl
 
 journal_alone : AllOne journal_rule rules
 unfolding clap_on_literals
@@ -134,10 +134,12 @@ module _ (words : List Text) (faultless : level_fault shape [] nothing_held word
       let journal_option = level_reads journal_rule shape [] words false [] journal_alone
       (not_missing (codes "journal") rows both_given.1) faultless in
       record {
-        replicas = record { text = replicas.0; given = replicas.1; passed = replicas.2 };
-        own = record { text = own.0; given = own.1; passed = own.2 };
-        commits = record { text = commits.0; given = commits.1; passed = commits.2 };
-        cap = record { text = cap.0; given = cap.1; passed = cap.2 };
+        group = record {
+          replicas = record { text = replicas.0; given = replicas.1; passed = replicas.2 };
+          own = record { text = own.0; given = own.1; passed = own.2 };
+          commits = record { text = commits.0; given = commits.1; passed = commits.2 };
+          cap = record { text = cap.0; given = cap.1; passed = cap.2 };
+        };
         tick = record { text = tick.0; given = tick.1; passed = tick.2 };
         compact = record { text = compact.0; given = compact.1; passed = compact.2 };
         objects = (_, objects.1);
@@ -151,13 +153,14 @@ unfolding clap_on_literals
 faultless_node = names_one lattice_node shape (shape_at 1) refl refl AreNodeOptions all_taken refl refl
 
 -- what the matches of a program say that was made as this one
-pub options_read : (made : App) (words : List Text) → made ≡ lattice_node → {X : Type 0} (o : Option (Text × List Row))
-    → (is_simple made ≡ true → X × (o ≡ subcommand_of made words))
+pub options_read : (made : App) (words : List Text) → made ≡ lattice_node → {X : Type 0}
+    (o : Option (Text × List Row)) → (is_simple made ≡ true → X × (o ≡ subcommand_of made words))
     → (is_simple_and_free made ≡ true → fault_of made words ≡ []) → (rows : List Row)
     → option_map (λ p. p.1) o ≡ Some rows → IsRead lattice_node (codes "node") AreNodeOptions words rows
 options_read = is_read lattice_node (codes "node") AreNodeOptions lattice_is_simple lattice_is_free faultless_node
 
-pub options_entered : (made : App) (words : List Text) → made ≡ lattice_node → {X : Type 0} (o : Option (Text × List Row))
-    → (is_simple made ≡ true → X × (o ≡ subcommand_of made words))
+pub options_entered : (made : App) (words : List Text) → made ≡ lattice_node → {X : Type 0}
+    (o : Option (Text × List Row)) → (is_simple made ≡ true → X × (o ≡ subcommand_of made words))
     → (is_simple_and_free made ≡ true → fault_of made words ≡ []) → None ≡ option_map (λ p. p.1) o → ⊥
-options_entered = is_entered lattice_node (codes "node") AreNodeOptions lattice_is_simple lattice_is_free faultless_node
+options_entered =
+    is_entered lattice_node (codes "node") AreNodeOptions lattice_is_simple lattice_is_free faultless_node

@@ -17,10 +17,10 @@ use Rattle.la_serve.specs.Starting.{RunsAll, IsServerStartRefusal}
 
 -- the exit status after a fault
 abbrev pub node_status : NodeFault → ℕ
+node_status fault.BadConfig = 2
 node_status fault.Memory = 3
 node_status fault.ReadFault = 4
 node_status fault.WriteFault = 4
-node_status fault.BadConfig = 4
 node_status fault.NoJournal = 5
 node_status fault.JournalThere = 5
 node_status fault.Locked = 5

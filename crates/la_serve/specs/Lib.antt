@@ -1,5 +1,6 @@
 pub mod Names
 pub mod Objects
+pub mod Unfit
 pub mod Options
 pub mod Making
 pub mod Faults

@@ -1,5 +1,6 @@
 -- What the words of `lattice node` say, the program's name first, by what `clap` makes of them.
-use Rattle.std.specs.Prelude.{◌≡◌, ◌⊎◌, ℕ, ◌≤◌, ⊤, List, [], ◌∷◌, Option, Some, None, true, codes, pos, replicate}
+use Rattle.std.specs.Prelude.{◌≡◌, ◌≢◌, ◌⊎◌, ℕ, ◌<◌, ◌≤◌, ⊤, List, [], ◌∷◌, length, Option, Some, None, Result, Ok, Err}
+use Rattle.std.specs.Prelude.{true, codes, pos, replicate}
 use Rattle.std.specs.Prelude.{string_bytes}
 use Rattle.std.specs.Option.{option_and_then}
 use Rattle.std.specs.Str.Parse.{IsNumeral, without_leading_plus, digits_value}
@@ -8,10 +9,14 @@ use Rattle.clap.specs.Words.{fault_of, first_of, many_of, one_of, subcommand_of}
 use Rattle.clap.specs.declared.builder.value_parser.ValueParser.TheVariants.{Signed}
 use Rattle.la_cli.specs.Calls.{IsGiven, IsNumberTaken, lattice_alone, option}
 use Rattle.la_object.specs.declared.kind.Kind.{Kind}
+use Rattle.la_node.specs.declared.config.Config.{Config}
+use Rattle.la_node.specs.Configs.{IsConfig}
 use Rattle.la_proposer.specs.Majority.{IsGroup, votes_of}
 use Rattle.la_proposer.specs.declared.votes.Votes.{Votes}
 use Rattle.la_serve.specs.declared.options.Options.{Options}
-use Rattle.la_serve.specs.Objects.{objects_in}
+use Rattle.la_serve.specs.declared.unfit.Unfit.{Unfit}
+use Rattle.la_serve.specs.declared.unfit.Unfit.TheVariants as unfit
+use Rattle.la_serve.specs.Objects.{objects_in, IsFirstUnfit}
 
 -- ## The command line
 
@@ -82,12 +87,16 @@ lattice_node = with_subcommand lattice_alone node.top
 
 -- ## What it says
 
--- a text in its range stands for each number, and there are one for the objects and one for the folder
-pub record AreNodeOptions (rows : List Row) : Type 0 where
+-- a text in its range stands for each number of a group, and for the replica's
+pub record AreGroupOptions (rows : List Row) : Type 0 where
   pub replicas : IsNumberTaken rows (codes "replicas") 1 8
   pub own : IsNumberTaken rows (codes "own") 0 7
   pub commits : IsNumberTaken rows (codes "commits") 0 16
   pub cap : IsNumberTaken rows (codes "cap") 1 1000000
+
+-- for each other number too, and there are one for the objects and one for the folder
+pub record AreNodeOptions (rows : List Row) : Type 0 where
+  pub group : AreGroupOptions rows
   pub tick : IsNumberTaken rows (codes "tick") 0 3600
   pub compact : IsNumberTaken rows (codes "compact") 0 1000000
   pub objects : (text : Text) × (one_of (codes "objects") rows ≡ Some text)
@@ -124,38 +133,52 @@ IsVotes given replicas (Some votes_option) = AreVotes given replicas (votes_of v
 abbrev pub given_objects : List Row → Option (List (ℕ × Kind))
 given_objects rows = option_and_then objects_in (first_of (codes "objects") rows)
 
--- the numbers are in their ranges
-pub record AreNodeNumbers (replicas own commits cap tick compact : ℕ) : Type 0 where
-  pub some_replicas : 1 ≤ replicas
-  pub few_replicas : replicas ≤ 8
-  pub few_own : own ≤ 7
-  pub few_commits : commits ≤ 16
-  pub some_cap : 1 ≤ cap
-  pub most_cap : cap ≤ 1000000
-  pub most_tick : tick ≤ 3600
-  pub most_compact : compact ≤ 1000000
+-- the group is the one that was given, or that of the defaults, and has this replica
+pub record IsGroupGiven (rows : List Row) (config : Config) (own : ℕ) : Type 0 where
+  pub replicas_given : IsGiven rows (codes "replicas") config.replicas
+  pub own_given : IsGiven rows (codes "own") own
+  pub commits_given : IsGiven rows (codes "commits") config.commits
+  pub cap_given : IsGiven rows (codes "cap") config.cap
+  pub votes_given : AreVotes (many_of (codes "votes") rows) config.replicas (votes_of config.votes)
+  pub is_group : IsConfig config
+  pub within : own < config.replicas
 
 -- the options are those that were given, or their defaults, each in its range
 pub record AreOptions (rows : List Row) (options : Options) : Type 0 where
-  pub replicas_given : IsGiven rows (codes "replicas") options.config.replicas
-  pub own_given : IsGiven rows (codes "own") options.own
-  pub commits_given : IsGiven rows (codes "commits") options.config.commits
-  pub cap_given : IsGiven rows (codes "cap") options.config.cap
+  pub group_given : IsGroupGiven rows options.config options.own
   pub tick_given : IsGiven rows (codes "tick") options.tick
   pub compact_given : IsGiven rows (codes "compact") options.compact
-  pub in_range : AreNodeNumbers options.config.replicas options.own options.config.commits options.config.cap
-      options.tick options.compact
-  pub votes_given : AreVotes (many_of (codes "votes") rows) options.config.replicas (votes_of options.config.votes)
+  pub most_tick : options.tick ≤ 3600
+  pub most_compact : options.compact ≤ 1000000
   pub objects_given : given_objects rows ≡ Some options.objects
   pub folder_given : first_of (codes "journal") rows ≡ Some (string_bytes options.folder)
 
--- the same, or there are none, and the votes are those of no group, or no objects are said
-abbrev pub SaysOptions : (rows : List Row) → Option Options → Type 0
-SaysOptions rows None = AreNoVotes (many_of (codes "votes") rows) ⊎ (given_objects rows ≡ None)
-SaysOptions rows (Some options) = AreOptions rows options
+-- ## What does not fit
+
+-- what was given is no group, or has not this replica
+abbrev pub IsGroupUnfit : (rows : List Row) → Unfit → Type 0
+IsGroupUnfit rows (unfit.Votes counts replicas) =
+    IsGiven rows (codes "replicas") replicas
+    × (votes_option : List ℕ) × AreVotes (many_of (codes "votes") rows) replicas votes_option
+    × (counts ≡ length votes_option) × (counts ≢ replicas)
+IsGroupUnfit rows unfit.NoVotes = AreNoVotes (many_of (codes "votes") rows)
+IsGroupUnfit rows (unfit.Own own replicas) =
+    IsGiven rows (codes "own") own × IsGiven rows (codes "replicas") replicas × (replicas ≤ own)
+IsGroupUnfit rows (unfit.Objects why) = ⊥
+
+-- what was given says no objects
+abbrev pub AreObjectsUnfit : (rows : List Row) → Unfit → Type 0
+AreObjectsUnfit rows (unfit.Objects why) =
+    (text : Text) × (first_of (codes "objects") rows ≡ Some text) × (objects_in text ≡ None) × IsFirstUnfit text why
+AreObjectsUnfit rows _ = ⊥
+
+-- the options, or what does not fit
+abbrev pub SaysOptions : (rows : List Row) → Result Options Unfit → Type 0
+SaysOptions rows (Ok options) = AreOptions rows options
+SaysOptions rows (Err why) = IsGroupUnfit rows why ⊎ AreObjectsUnfit rows why
 
 -- nothing is wrong with the words, and they name a node, of which they say this
-pub record IsSaid (words : List Text) (said : Option Options) : Type 0 where
+pub record IsSaid (words : List Text) (said : Result Options Unfit) : Type 0 where
   pub faultless : fault_of lattice_node words ≡ []
   pub rows : List Row
   pub named : subcommand_of lattice_node words ≡ Some (codes "node", rows)

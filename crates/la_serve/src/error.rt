@@ -20,7 +20,8 @@ pub enum NodeFault {
     #[error("Memory")]
     Memory,
 
-    /// The options are not those of a node: its number or its votes do not fit the group, or its objects no shelf.
+    /// The options are not those of a node: its number or its votes do not fit the group. Of words,
+    /// [`Unfit`](crate::Unfit) says which.
     #[error("BadConfig")]
     BadConfig,
 

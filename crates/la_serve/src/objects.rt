@@ -1,8 +1,11 @@
 // The objects of a node's shelf.
-ghost use Rattle.std.specs.Prelude.{◌≡◌, ◌≤◌, ◌++◌, [], ◌∷◌, length, slice_get, IsTrue};
+ghost use Rattle.std.specs.Prelude.{◌≡◌, ◌≤◌, ◌++◌, [], ◌∷◌, true, false, length, slice_get, Some, None, IsTrue};
+ghost use Rattle.std.specs.Prelude.{IfOk, IfErr, OnOk, OnErr};
 ghost use Rattle.la_object.specs.Shelves.{kind_at};
 ghost use Rattle.la_serve.specs.Objects.{are_for_a_shelf, have_own_numbers, kind_named, object_in, objects_in};
+ghost use Rattle.la_serve.specs.Objects.{IsNoObject, IsUnfitObject, IsFirstUnfit};
 
+use crate::UnfitObjects;
 use la_object::Kind;
 use la_script::{number, split_once};
 use std::marker::Model;
@@ -42,35 +45,37 @@ impl Objects {
     }
 
     /// The objects that a text says: parts with `,` between them, each of them a number, `=` and `counter`, `max`
-    /// or `set`, as `1=counter,7=set`. `None` where it says none: a part is another one, a number stands twice, or
-    /// there are more than 64.
-    pub fn read(text: &str) -> Option<Objects>
-        ensures { result ≡ objects_in text.now }
+    /// or `set`, as `1=counter,7=set`. Where it says none, the first part that is another one, or says a number again
+    /// that stands before it, or is behind 64.
+    pub fn read(text: &str) -> Result<Objects, UnfitObjects<'_>>
+        ensures ok { IfOk result (λ objects. objects_in text.now ≡ Some objects) }
+        ensures none { OnErr result (objects_in text.now ≡ None) }
+        ensures unfit { IfErr result (IsFirstUnfit text.now) }
     {
         let mut objects = Objects::new();
         for part in text.as_bytes().split(|b| *b == b',') {
             let (number, kind) = object_in(part)?;
-            if !objects.add(number, kind) {
-                return None;
-            }
+            objects.add(number, kind)?;
         }
-        Some(objects)
+        Ok(objects)
     }
 
-    // Adds one at the end, where a shelf may have it beside the others, and answers whether it does.
-    fn add(&mut self, number: u16, kind: Kind) -> bool
-        ensures fits { result ≡ are_for_a_shelf (self.old ++ (number, kind) ∷ []) }
-        ensures added { IsTrue result → self.new ≡ self.old ++ (number, kind) ∷ [] }
+    // Adds one at the end, where a shelf may have it beside the others.
+    fn add<'a>(&mut self, number: u16, kind: Kind) -> Result<(), UnfitObjects<'a>>
+        ensures added { OnOk result (self.new ≡ self.old ++ (number, kind) ∷ []) }
+        ensures fits { OnOk result (are_for_a_shelf (self.old ++ (number, kind) ∷ []) ≡ true) }
+        ensures not { OnErr result (are_for_a_shelf (self.old ++ (number, kind) ∷ []) ≡ false) }
+        ensures unfit { IfErr result (IsUnfitObject self.old number) }
     {
         if self.len() == ROOM {
-            return false;
+            return Err(UnfitObjects::TooMany);
         }
         if self.kind_of(number).is_some() {
-            return false;
+            return Err(UnfitObjects::Twice(number));
         }
         self.rows[self.len] = (number, kind);
         self.len += 1;
-        true
+        Ok(())
     }
 
     /// Each with its number, in their order.
@@ -126,11 +131,17 @@ fn kind_named(word: &[u8]) -> Option<Kind>
 }
 
 // The number and the kind that a part says.
-fn object_in(part: &[u8]) -> Option<(u16, Kind)>
-    ensures { result ≡ object_in part.now }
+fn object_in(part: &[u8]) -> Result<(u16, Kind), UnfitObjects<'_>>
+    ensures ok { IfOk result (λ object. object_in part.now ≡ Some object) }
+    ensures none { OnErr result (object_in part.now ≡ None) }
+    ensures unfit { IfErr result (IsNoObject part.now) }
 {
     let (first, word) = split_once(part, b'=');
-    let number = number(0, u64::from(u16::MAX), first)?;
-    let kind = kind_named(word)?;
-    Some((number as u16, kind))
+    let Some(number) = number(0, u64::from(u16::MAX), first) else {
+        return Err(UnfitObjects::NoNumber(first));
+    };
+    let Some(kind) = kind_named(word) else {
+        return Err(UnfitObjects::NoKind(word));
+    };
+    Ok((number as u16, kind))
 }

@@ -7,10 +7,11 @@ ghost use Rattle.clap.specs.declared.builder.value_parser.ValueParser.TheVariant
 ghost use Rattle.la_cli.specs.Calls.{lattice_alone};
 ghost use Rattle.la_serve.specs.Options.{number_option as number_rule, own as own_rule, votes_option as votes_rule};
 ghost use Rattle.la_serve.specs.Options.{journal_option as journal_rule, node, node_named, lattice_node};
-ghost use Rattle.la_serve.specs.Options.{objects_option as objects_rule, given_objects};
-ghost use Rattle.la_serve.specs.Options.{AreNodeOptions, IsSaid, IsVotes, SaysOptions};
+ghost use Rattle.la_serve.specs.Options.{objects_option as objects_rule};
+ghost use Rattle.la_serve.specs.Options.{AreGroupOptions, AreNodeOptions, IsSaid, IsVotes, SaysOptions};
+ghost use Rattle.la_serve.specs.Options.{IsGroupGiven, IsGroupUnfit};
 
-use crate::Objects;
+use crate::{Objects, Unfit};
 use arrayvec::ArrayVec;
 use clap::builder::ValueParser;
 use clap::{Arg, ArgMatches, Command, Error, value_parser};
@@ -143,7 +144,7 @@ fn program<'a>(alloc: Global) -> Result<Command<'a>, AllocError>
 }
 
 // The votes that were given, where they are those of a group; one for each replica, where none were.
-pub(crate) fn votes_in(given: &ArgMatches<'_>, replicas: u8) -> Option<Votes>
+fn votes_in(given: &ArgMatches<'_>, replicas: u8) -> Option<Votes>
     requires some { 1 ≤ replicas }
     requires few { replicas ≤ 8 }
     ensures { IsVotes (many_of (codes "votes") (rows_of (found_of given.now))) replicas result }
@@ -163,39 +164,57 @@ pub(crate) fn votes_in(given: &ArgMatches<'_>, replicas: u8) -> Option<Votes>
     Votes::new(votes.as_slice()).ok()
 }
 
-// The objects that were given, where the text says some.
-fn objects_in(given: &ArgMatches<'_>) -> Option<Objects>
-    ensures { result ≡ given_objects (rows_of (found_of given.now)) }
-{
-    Objects::read(given.get_str("objects")?)
-}
-
-// The options, each number of which is there and in its range.
-fn options_in(alloc: Global, given: &ArgMatches<'_>) -> Result<Option<Options>, AllocError>
-    requires { AreNodeOptions (rows_of (found_of given.now)) }
-    ensures { IfOk result (SaysOptions (rows_of (found_of given.now))) }
+// The group that was given, and which replica of it, each number of which is there and in its range.
+pub(crate) fn group_in<'a>(given: &ArgMatches<'_>) -> Result<(Config, u8), Unfit<'a>>
+    requires { AreGroupOptions (rows_of (found_of given.now)) }
+    ensures ok { IfOk result (λ group. IsGroupGiven (rows_of (found_of given.now)) group.0 group.1) }
+    ensures error { IfErr result (IsGroupUnfit (rows_of (found_of given.now))) }
 {
     let replicas = given.get_one::<u8>("replicas").unwrap();
     let own = given.get_one::<u8>("own").unwrap();
     let commits = given.get_one::<u8>("commits").unwrap();
     let cap = given.get_one::<u32>("cap").unwrap();
-    let tick = given.get_one::<u16>("tick").unwrap();
-    let compact = given.get_one::<u32>("compact").unwrap();
-    let folder = given.get_str("journal").unwrap();
     let Some(votes) = votes_in(given, replicas) else {
-        return Ok(None);
+        return Err(Unfit::NoVotes);
     };
-    let Some(objects) = objects_in(given) else {
-        return Ok(None);
-    };
-    let folder = String::from_str(alloc, folder)?;
+    let counts = votes.len();
+    if counts != usize::from(replicas) {
+        return Err(Unfit::Votes(counts, replicas));
+    }
+    if own >= replicas {
+        return Err(Unfit::Own(own, replicas));
+    }
     let config = Config {
         replicas,
         commits,
         cap,
         votes,
     };
-    Ok(Some(Options {
+    Ok((config, own))
+}
+
+// The options, each number of which is there and in its range, or what does not fit.
+fn options_in<'a>(
+    alloc: Global,
+    given: &ArgMatches<'a>,
+) -> Result<Result<Options, Unfit<'a>>, AllocError>
+    requires { AreNodeOptions (rows_of (found_of given.now)) }
+    ensures { IfOk result (SaysOptions (rows_of (found_of given.now))) }
+{
+    let tick = given.get_one::<u16>("tick").unwrap();
+    let compact = given.get_one::<u32>("compact").unwrap();
+    let said = given.get_str("objects").unwrap();
+    let folder = given.get_str("journal").unwrap();
+    let (config, own) = match group_in(given) {
+        Ok(group) => group,
+        Err(why) => return Ok(Err(why)),
+    };
+    let objects = match Objects::read(said) {
+        Ok(objects) => objects,
+        Err(why) => return Ok(Err(Unfit::Objects(why))),
+    };
+    let folder = String::from_str(alloc, folder)?;
+    Ok(Ok(Options {
         config,
         own,
         tick,
@@ -205,14 +224,14 @@ fn options_in(alloc: Global, given: &ArgMatches<'_>) -> Result<Option<Options>, 
     }))
 }
 
-/// What the words of a command line of `lattice node` say, the program's name first. `None` where the votes
-/// are none of a group, or the text of the objects says none.
+/// What the words of a command line of `lattice node` say, the program's name first: its options, or what does not fit
+/// in them, first in the group and then in the objects.
 ///
 /// The options are those that were given, or their defaults, each in its range. An error has a kind that
 /// `clap` finds in the words: they ask for help or for the version, also as `help node`, or they are
 /// mistaken, as all words are that name another subcommand. Or its kind is `OutOfMemory`, which comes of
 /// memory alone.
-pub fn command(alloc: Global, words: &[String]) -> Result<Option<Options>, Error>
+pub fn command<'a>(alloc: Global, words: &'a [String]) -> Result<Result<Options, Unfit<'a>>, Error>
     ensures ok { IfOk result (IsSaid (map string_bytes words.now)) }
     ensures error { IfErr result (HasKind (fault_of lattice_node (map string_bytes words.now))) }
 {

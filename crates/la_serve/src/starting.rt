@@ -40,8 +40,9 @@ fn status_of(fault: NodeFault) -> u8
     ensures { result ≡ node_status fault }
 {
     match fault {
+        NodeFault::BadConfig => 2,
         NodeFault::Memory => 3,
-        NodeFault::ReadFault | NodeFault::WriteFault | NodeFault::BadConfig => 4,
+        NodeFault::ReadFault | NodeFault::WriteFault => 4,
         NodeFault::NoJournal
         | NodeFault::JournalThere
         | NodeFault::Locked

@@ -1,34 +1,8 @@
-use Rattle.std.proofs.Common.{◌∙◌, ap, codes, arith, sym, inl, inr, option_map, Some}
-use Rattle.std.specs.Str.Parse.{ParsesUnsigned, ExplainsUnsignedError, HasUnsignedDigitsIfOk}
+use Rattle.std.proofs.Common.{◌∙◌, ap, codes, sym, option_map, Some}
 use Rattle.clap.specs.Words.{found_of, rows_of}
 use Rattle.clap.proofs.WalkLemmas.{first_value-rows}
-use Rattle.la_cli.proofs.lemmas.GivenNumbers.{some_number, taken_is_given}
 use Rattle.la_serve.proofs.CommandRules.{first_there, some_text}
 use Rattle.la_serve.proofs.making.making_in.Goals as goal
-
-pub unwrap-replicas-requires : goal.unwrap-replicas-requires
-unwrap-replicas-requires c =
-    some_number 8 (λ bs r. ParsesUnsigned 8 10 bs r × ExplainsUnsignedError 10 bs r × HasUnsignedDigitsIfOk bs r)
-    (found_of c.args.given.now) (codes "replicas") 1 8 c.get_one.result c.requires.replicas (omega arith)
-    c.get_one.ensures.value (λ u x g. g.0)
-
-pub unwrap-own-requires : goal.unwrap-own-requires
-unwrap-own-requires c =
-    some_number 8 (λ bs r. ParsesUnsigned 8 10 bs r × ExplainsUnsignedError 10 bs r × HasUnsignedDigitsIfOk bs r)
-    (found_of c.args.given.now) (codes "own") 0 7 c.get_one-2.result c.requires.own (omega arith)
-    c.get_one-2.ensures.value (λ u x g. g.0)
-
-pub unwrap-commits-requires : goal.unwrap-commits-requires
-unwrap-commits-requires c =
-    some_number 8 (λ bs r. ParsesUnsigned 8 10 bs r × ExplainsUnsignedError 10 bs r × HasUnsignedDigitsIfOk bs r)
-    (found_of c.args.given.now) (codes "commits") 0 16 c.get_one-3.result c.requires.commits (omega arith)
-    c.get_one-3.ensures.value (λ u x g. g.0)
-
-pub unwrap-cap-requires : goal.unwrap-cap-requires
-unwrap-cap-requires c =
-    some_number 32 (λ bs r. ParsesUnsigned 32 10 bs r × ExplainsUnsignedError 10 bs r × HasUnsignedDigitsIfOk bs r)
-    (found_of c.args.given.now) (codes "cap") 1 1000000 c.get_one-4.result c.requires.cap (omega arith)
-    c.get_one-4.ensures.value (λ u x g. g.0)
 
 pub unwrap-folder-requires : goal.unwrap-folder-requires
 unwrap-folder-requires c =
@@ -36,53 +10,11 @@ unwrap-folder-requires c =
     let first = first_there (codes "folder") (rows_of found) c.requires.folder.0 c.requires.folder.1 in
     some_text c.get_str.result first.0 (c.get_str.ensures ∙ first_value-rows found (codes "folder") ∙ first.1)
 
-pub votes_in-requires-clause-some : goal.votes_in-requires-clause-some
-votes_in-requires-clause-some c =
-    let found = found_of c.args.given.now in
-    let replicas =
-    taken_is_given 8 (λ bs r. ParsesUnsigned 8 10 bs r × ExplainsUnsignedError 10 bs r × HasUnsignedDigitsIfOk bs r)
-    found (codes "replicas") 1 8 c.get_one.result c.unwrap-replicas.result c.requires.replicas (omega arith)
-    c.unwrap-replicas.ensures c.get_one.ensures.none c.get_one.ensures.value (λ u x g. g.0) in
-    replicas.1
-
-pub votes_in-requires-clause-few : goal.votes_in-requires-clause-few
-votes_in-requires-clause-few c =
-    let found = found_of c.args.given.now in
-    let replicas =
-    taken_is_given 8 (λ bs r. ParsesUnsigned 8 10 bs r × ExplainsUnsignedError 10 bs r × HasUnsignedDigitsIfOk bs r)
-    found (codes "replicas") 1 8 c.get_one.result c.unwrap-replicas.result c.requires.replicas (omega arith)
-    c.unwrap-replicas.ensures c.get_one.ensures.none c.get_one.ensures.value (λ u x g. g.0) in
-    replicas.2
-
-pub returns-in_default : goal.returns-in_default
-returns-in_default c = c.in_default.ensures
-
 pub returns : goal.returns
 returns c =
     let found = found_of c.args.given.now in
-    let replicas =
-    taken_is_given 8 (λ bs r. ParsesUnsigned 8 10 bs r × ExplainsUnsignedError 10 bs r × HasUnsignedDigitsIfOk bs r)
-    found (codes "replicas") 1 8 c.get_one.result c.unwrap-replicas.result c.requires.replicas (omega arith)
-    c.unwrap-replicas.ensures c.get_one.ensures.none c.get_one.ensures.value (λ u x g. g.0) in
-    let own =
-    taken_is_given 8 (λ bs r. ParsesUnsigned 8 10 bs r × ExplainsUnsignedError 10 bs r × HasUnsignedDigitsIfOk bs r)
-    found (codes "own") 0 7 c.get_one-2.result c.unwrap-own.result c.requires.own (omega arith) c.unwrap-own.ensures
-    c.get_one-2.ensures.none c.get_one-2.ensures.value (λ u x g. g.0) in
-    let commits =
-    taken_is_given 8 (λ bs r. ParsesUnsigned 8 10 bs r × ExplainsUnsignedError 10 bs r × HasUnsignedDigitsIfOk bs r)
-    found (codes "commits") 0 16 c.get_one-3.result c.unwrap-commits.result c.requires.commits (omega arith)
-    c.unwrap-commits.ensures c.get_one-3.ensures.none c.get_one-3.ensures.value (λ u x g. g.0) in
-    let cap =
-    taken_is_given 32 (λ bs r. ParsesUnsigned 32 10 bs r × ExplainsUnsignedError 10 bs r × HasUnsignedDigitsIfOk bs r)
-    found (codes "cap") 1 1000000 c.get_one-4.result c.unwrap-cap.result c.requires.cap (omega arith)
-    c.unwrap-cap.ensures c.get_one-4.ensures.none c.get_one-4.ensures.value (λ u x g. g.0) in
     record {
-      replicas_given = replicas.0;
-      own_given = own.0;
-      commits_given = commits.0;
-      cap_given = cap.0;
-      in_range = (replicas.1, replicas.2, own.2, commits.2, cap.1, cap.2);
-      votes_given = c.in-Some.ensures;
+      group_given = c.in-Ok.ensures.ok;
       folder_given =
           sym (first_value-rows found (codes "folder")) ∙ sym c.get_str.ensures
           ∙ ap (option_map (λ s. s.now)) c.unwrap-folder.ensures

@@ -9,14 +9,14 @@ use Rattle.la_serve.specs.Objects.{have_own_numbers}
 use Rattle.la_serve.proofs.OwnNumbers.{none_fits, one_fits, own_numbers_end, taken_fits_not}
 use Rattle.la_serve.proofs.objects.Objects.add.Goals as goal
 
-pub returns-then-len-eq-ROOM-clause-fits : goal.returns-then-len-eq-ROOM-clause-fits
-returns-then-len-eq-ROOM-clause-fits c =
-    sym (none_fits c.args.self.now c.args.number c.args.kind (sym c.len.ensures.len ∙ c.if-len-eq-ROOM.true))
+pub returns-then-len-eq-ROOM-clause-not : goal.returns-then-len-eq-ROOM-clause-not
+returns-then-len-eq-ROOM-clause-not c =
+    none_fits c.args.self.now c.args.number c.args.kind (sym c.len.ensures.len ∙ c.if-len-eq-ROOM.true)
 
-pub returns-then-is_some-clause-fits : goal.returns-then-is_some-clause-fits
-returns-then-is_some-clause-fits c =
+pub returns-then-is_some-clause-not : goal.returns-then-is_some-clause-not
+returns-then-is_some-clause-not c =
     let taken : is_none (kind_at c.args.self.now c.args.number) ≡ false = search rules in
-    sym (taken_fits_not c.args.self.now c.args.number c.args.kind taken)
+    taken_fits_not c.args.self.now c.args.number c.args.kind taken
 
 pub invariant_of-self : goal.invariant_of-self
 invariant_of-self c =
@@ -41,4 +41,4 @@ pub returns-clause-fits : goal.returns-clause-fits
 returns-clause-fits c =
     let new : is_none (kind_at c.args.self.now c.args.number) ≡ true = search rules in
     let own : have_own_numbers c.args.self.now ≡ true = search rules in
-    sym (one_fits c.args.self.now c.args.number c.args.kind (omega (arith, c.len.ensures, c.if-len-eq-ROOM.false)) own new)
+    one_fits c.args.self.now c.args.number c.args.kind (omega (arith, c.len.ensures, c.if-len-eq-ROOM.false)) own new
