@@ -1,5 +1,6 @@
 -- A host: a node with a shelf of objects, what waits to be sent, and what of its view was handed on.
-use Rattle.std.specs.Prelude.{◌≡◌, ◌⊎◌, ℕ, ◌+◌, ◌-◌, ◌^◌, ◌<◌, ◌==◌, min, Bool, true, false, List, [], ◌∷◌, ◌++◌, length, Option}
+use Rattle.std.specs.Prelude.{◌≡◌, ◌⊎◌, ℕ, ◌+◌, ◌-◌, ◌^◌, ◌<◌, ◌==◌, min, Bool, true, false, List, [], ◌∷◌, ◌++◌}
+use Rattle.std.specs.Prelude.{length, Option}
 use Rattle.std.specs.Prelude.{Some, None}
 use Rattle.std.specs.Prelude.{if◌then◌else◌, IsSome}
 use Rattle.la_set.specs.declared.counts.Counts.{Counts}
@@ -88,7 +89,8 @@ abbrev pub lost_once : ℕ → ℕ
 lost_once lost = min (lost + 1) (2 ^ 64 - 1)
 
 -- this was done, and nothing is lost; or nothing waits that did not, and one loss more is counted
-abbrev pub IsDoneOrLost : Type 0 → Links → (before mail : List Outgoing) → (noted : Links) → (lost_before lost : ℕ) → Type 0
+abbrev pub IsDoneOrLost : Type 0 → Links → (before mail : List Outgoing) → (noted : Links) → (lost_before lost : ℕ)
+    → Type 0
 IsDoneOrLost done links before mail noted lost_before lost =
     (done × (lost ≡ lost_before)) ⊎ ((mail ≡ before) × (noted ≡ links) × (lost ≡ lost_once lost_before))
 
@@ -97,8 +99,8 @@ IsDoneOrLost done links before mail noted lost_before lost =
 abbrev pub IsPosted : Links → (after : ReplicaState) → (sent : List code.Message) → (before mail : List Outgoing)
     → (noted : Links) → (lost_before lost : ℕ) → Type 0
 IsPosted links after sent before mail noted lost_before lost =
-    IsDoneOrLost (IsSent links after.own (letters_sent links after sending.Call sent) before mail noted) links before mail
-    noted lost_before lost
+    IsDoneOrLost (IsSent links after.own (letters_sent links after sending.Call sent) before mail noted) links before
+    mail noted lost_before lost
 
 -- a standing is put there, or was lost so
 abbrev pub IsToldBack : Standing → (before mail : List Outgoing) → (lost_before lost : ℕ) → Type 0

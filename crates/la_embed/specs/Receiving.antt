@@ -21,7 +21,8 @@ use Rattle.la_embed.specs.declared.error.HostError.TheVariants.{Line, NoMessage,
 use Rattle.la_embed.specs.declared.outgoing.Outgoing.{Outgoing}
 use Rattle.la_embed.specs.declared.outgoing.Outgoing.TheVariants as out
 use Rattle.la_embed.specs.Journals.{IsRefusedOver}
-use Rattle.la_embed.specs.Hosts.{HostState, TakesCall, IsToldBack, IsMended, with_links, with_mail, with_noted, with_lost, lost_once}
+use Rattle.la_embed.specs.Hosts.{HostState, TakesCall, IsToldBack, IsMended, with_links, with_mail, with_noted}
+use Rattle.la_embed.specs.Hosts.{with_lost, lost_once}
 use Rattle.la_embed.specs.Refusals.{host_error_of_node}
 
 -- ## What a host makes of it
