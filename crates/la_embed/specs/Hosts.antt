@@ -100,8 +100,7 @@ abbrev pub IsPosted : Links → (after : ReplicaState) → (sent : List code.Mes
     → (noted : Links) → (lost_before lost : ℕ) → Type 0
 IsPosted links after sent before mail noted lost_before lost =
     IsDoneOrLost (IsSent links after.own (letters_sent links after sending.Call sent) before mail noted) links before
-    mail
-    noted lost_before lost
+    mail noted lost_before lost
 
 -- a standing is put there, or was lost so
 abbrev pub IsToldBack : Standing → (before mail : List Outgoing) → (lost_before lost : ℕ) → Type 0

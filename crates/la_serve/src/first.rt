@@ -6,8 +6,6 @@ ghost use Rattle.la_node.specs.Configs.{IsConfig};
 ghost use Rattle.la_durable.specs.Restarts.{leads_from};
 ghost use Rattle.la_serve.specs.Crashes.{at_start};
 
-use la_durable::NodeMachine;
-use la_journal::new_journal;
 use la_node::{Config, WorldError};
 use std::alloc::{AllocError, Global};
 
@@ -32,8 +30,8 @@ pub fn first_journal(alloc: Global, making: &Making) -> Result<Vec<u8>, AllocErr
     ensures lines { IfOk result (λ file. lines file.items ≡ []) }
     ensures whole { IfOk result (λ file. EndsInGroups file.items) }
 {
-    match NodeMachine::new(alloc, making.config, making.own) {
-        Ok(machine) => new_journal(alloc, &machine),
+    match la_durable::first_journal(alloc, making.config, making.own) {
+        Ok(file) => Ok(file),
         Err(WorldError::Memory) => Err(AllocError),
         // The group is one, and has the replica.
         Err(_) => unreachable!(),

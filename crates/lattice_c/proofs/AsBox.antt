@@ -9,6 +9,7 @@ use Rattle.std_heap.proofs.Global.TheLaws as heap
 use Rattle.la_embed.specs.contracts.embedded.Embedded as Host
 use Rattle.la_embed.proofs.embedded.Embedded.TheLaws as host
 use Rattle.lattice_c.specs.contracts.handle.Handle as Handle
+use Rattle.lattice_c.specs.contracts.parts.Parts as Parts
 
 abbrev pub E : Bx
 E = record {
@@ -19,3 +20,6 @@ E = record {
 
 abbrev pub FromHandle : Slot 0
 FromHandle = plain (λ _. Handle.the_row)
+
+abbrev pub FromParts : Slot 0
+FromParts = plain (λ _. Parts.the_row Host.the_row Heap.the_row ghosts)

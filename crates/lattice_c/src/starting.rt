@@ -51,7 +51,7 @@ pub extern "C" fn lattice_node_new(
     votes: &[u16],
     out: &mut Place,
 ) -> u8
-    ensures { MakesNode replicas own commits cap votes.now result }
+    ensures { MakesNode replicas own commits cap votes.now result out.old out.new }
 {
     let Some(votes) = votes_of(replicas, votes) else {
         return BAD_GROUP;
@@ -99,7 +99,7 @@ pub extern "C" fn lattice_node_recover(
     line: &mut usize,
     out: &mut Place,
 ) -> u8
-    ensures { RecoversNode replicas own commits cap votes.now found.now line.old result keep.new line.new }
+    ensures { RecoversNode replicas own commits cap votes.now found.now line.old result keep.new line.new out.old out.new }
 {
     let Some(votes) = votes_of(replicas, votes) else {
         return BAD_GROUP;
