@@ -1,6 +1,7 @@
 //! Nodes that end at any moment, and come back by their journals.
 
 use lattice_agreement::{Ask, Config, Counts, Durable, DurableError, Error, Kind, Mail, Submit};
+use std::ffi::OsStr;
 use std::fs::{self, OpenOptions};
 use std::io::{self, BufRead, BufReader, Write};
 use std::os::unix::fs::symlink;
@@ -12,6 +13,10 @@ const COUNTER: u16 = 1;
 const SET: u16 = 2;
 const OWN: u16 = 3;
 const CHILD: &str = "LATTICE_TEST_FOLDER";
+/// It names the program `lattice`, where that is to be tried too.
+const PROGRAM: &str = "LATTICE_PROGRAM";
+/// The group of `alone`, in the program's words.
+const GROUP: [&str; 6] = ["--own", "0", "--replicas", "1", "--commits", "1"];
 
 /// A folder that goes with the test.
 struct Scratch(PathBuf);
@@ -248,6 +253,41 @@ fn a_journal_is_made_once() {
         assert_eq!((&*journal(&folder), names(&folder).len()), (bytes, 2));
     }
     assert_eq!(open(&alone(), &folder).total(COUNTER).unwrap(), 5);
+}
+
+/// The total that the program finds in a folder.
+fn total_by(program: &OsStr, folder: &Path) -> String {
+    let mut command = Command::new(program);
+    command.arg("node").args(GROUP).arg("--journal").arg(folder);
+    let mut node = command.stdin(Stdio::piped()).stdout(Stdio::piped()).spawn().unwrap();
+    let asked = format!("ask 0 {COUNTER} total\n");
+    node.stdin.take().unwrap().write_all(asked.as_bytes()).unwrap();
+    String::from_utf8(node.wait_with_output().unwrap().stdout).unwrap()
+}
+
+#[test]
+fn the_program_makes_the_same_journal() {
+    let Some(program) = env::var_os(PROGRAM) else {
+        return;
+    };
+    let scratch = Scratch::new("program");
+    let folders = [scratch.folder("made-by-the-program"), scratch.folder("made-here")];
+    let init = |folder: &Path| {
+        let mut command = Command::new(&program);
+        command.arg("init").arg(folder).args(GROUP).stderr(Stdio::null()).status().unwrap().code()
+    };
+    assert_eq!(init(&folders[0]), Some(0));
+    drop(create(&alone(), &folders[1]));
+    assert_eq!(journal(&folders[0]), journal(&folders[1]));
+    for folder in &folders {
+        assert_eq!(init(folder), Some(5));
+        let there = Durable::create(&alone(), folder);
+        assert!(matches!(there, Err(DurableError::JournalThere { .. })));
+        open(&alone(), folder).inc(COUNTER, 5).unwrap();
+        let said = total_by(&program, folder);
+        assert!(said.contains(&format!("answered {COUNTER} total 5")), "{said}");
+        assert_eq!(open(&alone(), folder).total(COUNTER).unwrap(), 5);
+    }
 }
 
 #[test]
