@@ -1,12 +1,12 @@
 -- Submissions under numbers count once.
 use Rattle.std.proofs.Common.{◌≡◌, ◌⊎◌, inl, inr, ℕ, zero, suc, ◌+◌, ◌==◌, Bool, true, false, not, List, []}
 use Rattle.std.proofs.Common.{◌∷◌, ◌++◌, length, leb, get_or, slice_get, codes, Option, Some, None, refl, sym, ap}
-use Rattle.std.proofs.Common.{subst}
+use Rattle.std.proofs.Common.{subst, option_map}
 use Rattle.std.proofs.Common.{◌∙◌, append_assoc, append-nil, add-one, arith}
 use Rattle.std.specs.Fmt.{decimal}
 use Rattle.std.proofs.lemmas.Bool.{eqb-true, false≢true}
 use Rattle.std.proofs.lemmas.List.{append_cancel_left}
-use Rattle.std.proofs.lemmas.Option.{none-some}
+use Rattle.std.proofs.lemmas.Option.{none-some, same_Some}
 use Rattle.la_set.specs.ObjectOps.{ObjectOp}
 use Rattle.la_set.specs.Histories.{object_op_number}
 use Rattle.la_set.specs.declared.tags.TheConstants.{MAX_TAGS}
@@ -16,7 +16,7 @@ use Rattle.la_object.specs.Shelves.{kind_at}
 use Rattle.la_object.specs.declared.kind.Kind.{Kind}
 use Rattle.la_proposer.specs.ProposerState.{op_on}
 use Rattle.la_node.specs.Calls.{Submitted}
-use Rattle.la_node.specs.Steps.{node_step}
+use Rattle.la_node.specs.Steps.{Given, node_step}
 use Rattle.la_node.proofs.lemmas.Stepping.{some_of}
 use Rattle.la_replica.specs.ReplicaState.{ReplicaState}
 use Rattle.la_io.specs.Limits.{is_too_long}
@@ -32,7 +32,11 @@ use Rattle.la_serve.specs.declared.said.Said.TheVariants as said
 use Rattle.la_serve.specs.declared.said.Why.{Why}
 use Rattle.la_serve.specs.Heard.{HeardLine, bare, heard_name, heard_call}
 use Rattle.la_serve.specs.Numbered.{submissions_by, submission_under, is_next_number}
-use Rattle.la_serve.specs.Once.{MayGoOn, AddsUnder, AsksUnder, NumbersCountOnce}
+use Rattle.la_serve.specs.Once.{MayGoOn, AddsUnder, AsksUnder, NumbersCountOnce, StandsOn, NumbersCountOverLives}
+use Rattle.la_serve.specs.Lives.{NodeLivesAreOneRun}
+use Rattle.la_journal.specs.Machine.{steps, steps_from}
+use Rattle.la_durable.specs.CallLines.{CallLine}
+use Rattle.la_durable.specs.Nodes.{acts, acts_by, step}
 use Rattle.la_serve.specs.Serving.{AreTurns}
 use Rattle.la_serve.specs.Said.{why_word, unfit, asks_of, IsSaidUnder, IsSaidUnlessFit}
 use Rattle.la_serve.specs.Takes.{taken_tags}
@@ -304,3 +308,69 @@ numbers_count laws say = record {
   stays = λ objects n after k number turns d may are is. stays laws objects n after k number turns d may are is;
   goes_on = λ objects n after k turns may are. goes_on laws objects n after k turns may are;
 }
+
+-- ## Over lives
+
+-- the call of a line that was taken
+call_said : (before after : ReplicaState) (o : Option WireCall)
+    → option_map (λ (made : Given × ReplicaState). made.1) (acts_by before o) ≡ Some after
+    → (call : WireCall) × (given : Given) × (acts before call ≡ Some (given, after))
+call_said before after None e = absurd (none-some after e)
+call_said before after (Some call) e = let made = made_is (acts before call) e in (call, made.0, made.1)
+  where
+    made_is : (o : Option (Given × ReplicaState)) → option_map (λ (made : Given × ReplicaState). made.1) o ≡ Some after
+        → (given : Given) × (o ≡ Some (given, after))
+    made_is None e = absurd (none-some after e)
+    made_is (Some made) e = (made.0, ap (λ (q : ReplicaState). Some (made.0, q)) (same_Some made.1 after e))
+
+nowhere : (calls : List CallLine) → steps_from step calls None ≡ None
+nowhere [] = refl
+nowhere (c ∷ calls) = nowhere calls
+
+module _ (laws : ProposersGoOn) where
+  call_stands : (before after : ReplicaState) (c : CallLine) → MayGoOn before → step before c ≡ Some after
+      → StandsOn before after
+  call_stands before after c may e =
+      let said = call_said before after (named_call c.line) e in
+      let call = call_of_line before said.0 (said.1, after) said.2 in
+      let goes = step_goes laws before may call.0 (said.1, after) call.2 in (
+        (λ number d is.
+        ap (λ ds. object_op_number ds number) goes.adds ∙ under_more (submissions_by before) _ number d is),
+        goes.may,
+        goes.own,
+      )
+
+  calls_from : (before after : ReplicaState) (calls : List CallLine) (o : Option ReplicaState) → MayGoOn before
+      → ((mid : ReplicaState) → o ≡ Some mid → StandsOn before mid) → steps_from step calls o ≡ Some after
+      → StandsOn before after
+  calls_from before after [] o may stands led = stands after led
+  calls_from before after (c ∷ calls) None may stands led =
+      absurd (none-some after (sym (nowhere calls) ∙ led))
+  calls_from before after (c ∷ calls) (Some mid) may stands led =
+      let here = stands mid refl in
+      calls_from before after calls (step mid c) may
+      (λ next e.
+      let then = call_stands mid next c here.1 e in (
+        (λ number d is. then.0 number d (here.0 number d is)),
+        then.1,
+        then.2 ∙ here.2,
+      )) led
+
+  stays_itself : (before mid : ReplicaState) → MayGoOn before → Some before ≡ Some mid → StandsOn before mid
+  stays_itself before mid may e =
+      subst (StandsOn before) (same_Some before mid e) ((λ number d is. is), may, refl)
+
+  calls_stand : (before after : ReplicaState) (calls : List CallLine) → MayGoOn before
+      → steps step calls before ≡ Some after → StandsOn before after
+  calls_stand before after calls may led =
+      calls_from before after calls (Some before) may (λ mid e. stays_itself before mid may e) led
+
+  pub over_lives : {D : Type 0} (seen : D → List ℕ) (may_leave : D → List ℕ → Type 0) (moment : D → ℕ)
+      (left_since : D → ℕ → List ℕ → Type 0) → NodeLivesAreOneRun seen may_leave moment left_since
+      → NumbersCountOverLives seen may_leave moment left_since
+  over_lives seen may_leave moment left_since run = record {
+    lives = λ fresh first after lives file may are leads.
+        let whole = run fresh first lives file are in
+        calls_stand first after whole.0 may (sym whole.2 ∙ leads);
+    calls = calls_stand;
+  }

@@ -8,7 +8,13 @@ use Rattle.la_replica.specs.ReplicaState.{ReplicaState, InInstance}
 use Rattle.la_wire.specs.Calls.{Submit}
 use Rattle.la_wire.specs.CallLines.{named_call}
 use Rattle.la_wire.specs.Notes.{submitted_note}
+use Rattle.la_journal.specs.Lives.{Life}
+use Rattle.la_journal.specs.Machine.{steps}
+use Rattle.la_durable.specs.CallLines.{CallLine}
+use Rattle.la_durable.specs.Nodes.{step}
+use Rattle.la_durable.specs.Restarts.{leads_from}
 use Rattle.la_serve.specs.Heard.{HeardLine}
+use Rattle.la_serve.specs.Lives.{AreNodeLives}
 use Rattle.la_serve.specs.Numbered.{submissions_by, submission_under}
 use Rattle.la_serve.specs.Turns.{ServerState, Turn, IsTurn}
 use Rattle.la_serve.specs.Serving.{AreTurns}
@@ -45,3 +51,23 @@ pub record NumbersCountOnce : Type 0 where
   -- which lead to a node that may go on, of the same replica
   pub goes_on : (objects : List (ℕ × Kind)) (n after : ServerState) (k : ℕ) (turns : List Turn) →
       MayGoOn n.kept → AreTurns objects n k turns after → MayGoOn after.kept × (after.kept.own ≡ n.kept.own)
+
+-- ## Over lives
+
+-- what stood under a number stands there, and the node may go on, as the same replica
+abbrev pub StandsOn : (before after : ReplicaState) → Type 0
+StandsOn before after =
+    ((number : ℕ) (d : ObjectOp) → submission_under before number ≡ Some d → submission_under after number ≡ Some d)
+    × MayGoOn after × (after.own ≡ before.own)
+
+pub record NumbersCountOverLives {D : Type 0} (seen : D → List ℕ) (may_leave : D → List ℕ → Type 0) (moment : D → ℕ)
+    (left_since : D → ℕ → List ℕ → Type 0) : Type 0 where
+  -- So it is of a node that is started again where the last of its lives left its journal, whatever moments they ended
+  -- at: no number is given to another submission, and none is forgotten.
+  pub lives : (fresh first after : ReplicaState) (lives : List (Life CallLine)) (file : List ℕ) → MayGoOn first →
+      AreNodeLives seen may_leave moment left_since fresh first lives file → leads_from fresh file ≡ Some after →
+      StandsOn first after
+  -- And of one that was killed behind a text that it gave out: from where it was then its journal leads by some calls
+  -- (`KilledNodesGoOn`), and what it had answered as submitted stands there.
+  pub calls : (before after : ReplicaState) (calls : List CallLine) → MayGoOn before →
+      steps step calls before ≡ Some after → StandsOn before after

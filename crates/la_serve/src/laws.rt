@@ -1,7 +1,7 @@
 //! What holds of nodes that are killed at any moment, by power or by force: laws that no code runs.
 ghost use Rattle.la_serve.specs.Lives.{KilledNodesGoOn, NodeLivesAreOneRun};
 ghost use Rattle.la_serve.specs.Processes.{NewProcessesAreTogether, TurnsKeepTogether, RestartsKeepTogether};
-ghost use Rattle.la_serve.specs.Once.{MayGoOn, NumbersCountOnce};
+ghost use Rattle.la_serve.specs.Once.{MayGoOn, NumbersCountOnce, NumbersCountOverLives};
 ghost use Rattle.la_durable.specs.Nodes.{kept_by};
 
 use la_durable::NodeMachine;
@@ -52,6 +52,18 @@ pub fn numbers_count_once()
     la_proposer::laws::proposers_may_be_resumed();
     la_proposer::laws::replies_submit_nothing();
     la_wire::laws::numbers_are_read_apart();
+}
+
+/// And so it is over lives: what stands under a number stands there however often the node is killed and started again, at
+/// whatever moments. So a client that was answered may send again to a node that came back, and its submission still
+/// counts once.
+pub fn numbers_count_over_lives<D: Disk>()
+    ensures { NumbersCountOverLives D.seen D.may_leave D.moment D.left_since }
+{
+    // hints to the prover: of lives, and of proposers
+    node_lives_are_one_run::<D>();
+    la_proposer::laws::proposers_may_be_resumed();
+    la_proposer::laws::replies_submit_nothing();
 }
 
 /// A node may go on at any time, as `numbers_count_once` has to know of the first: one that is new or started again too.
