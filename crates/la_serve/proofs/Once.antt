@@ -1,30 +1,25 @@
 -- Submissions under numbers count once.
 use Rattle.std.proofs.Common.{◌≡◌, ◌⊎◌, inl, inr, ℕ, zero, suc, ◌+◌, ◌==◌, Bool, true, false, not, List, []}
 use Rattle.std.proofs.Common.{◌∷◌, ◌++◌, length, leb, get_or, slice_get, codes, Option, Some, None, refl, sym, ap}
-use Rattle.std.proofs.Common.{subst, Contains}
+use Rattle.std.proofs.Common.{subst, option_map}
 use Rattle.std.proofs.Common.{◌∙◌, append_assoc, append-nil, add-one, arith}
 use Rattle.std.specs.Fmt.{decimal}
 use Rattle.std.proofs.lemmas.Bool.{eqb-true, false≢true}
 use Rattle.std.proofs.lemmas.List.{append_cancel_left}
-use Rattle.std.proofs.lemmas.List.Elements.{Contains-append_cases}
-use Rattle.std.proofs.lemmas.Option.{none-some}
+use Rattle.std.proofs.lemmas.Option.{none-some, same_Some}
 use Rattle.la_set.specs.ObjectOps.{ObjectOp}
 use Rattle.la_set.specs.Histories.{object_op_number}
-use Rattle.la_set.proofs.lemmas.Filters.{Contains-cons_cases, Contains-none}
 use Rattle.la_set.specs.declared.tags.TheConstants.{MAX_TAGS}
 use Rattle.la_set.specs.declared.update.Op.{Op}
 use Rattle.la_set.specs.declared.update.Op.TheVariants as op
 use Rattle.la_object.specs.Shelves.{kind_at}
 use Rattle.la_object.specs.declared.kind.Kind.{Kind}
 use Rattle.la_proposer.specs.ProposerState.{op_on}
-use Rattle.la_node.specs.Accepting.{unwraps, parcel_call}
-use Rattle.la_node.specs.Calls.{NodeCall, Submitted, Proposed, Received}
+use Rattle.la_node.specs.Calls.{Submitted}
 use Rattle.la_node.specs.Steps.{Given, node_step}
 use Rattle.la_node.proofs.lemmas.Stepping.{some_of}
-use Rattle.la_replica.specs.Parcels.{unwrapped_in}
 use Rattle.la_replica.specs.ReplicaState.{ReplicaState}
 use Rattle.la_io.specs.Limits.{is_too_long}
-use Rattle.la_wire.specs.Messages.{WireMessage}
 use Rattle.la_wire.specs.Calls.{WireCall, Submit, Decide, Ask, Tick, Receive, Known}
 use Rattle.la_wire.specs.CallLines.{named_call, call_line_text}
 use Rattle.la_wire.specs.declared.questions.Question.{Question}
@@ -37,18 +32,18 @@ use Rattle.la_serve.specs.declared.said.Said.TheVariants as said
 use Rattle.la_serve.specs.declared.said.Why.{Why}
 use Rattle.la_serve.specs.Heard.{HeardLine, bare, heard_name, heard_call}
 use Rattle.la_serve.specs.Numbered.{submissions_by, submission_under, is_next_number}
+use Rattle.la_serve.specs.Once.{MayGoOn, AddsUnder, AsksUnder, NumbersCountOnce, StandsOn, NumbersCountOverLives}
+use Rattle.la_serve.specs.Lives.{NodeLivesAreOneRun}
+use Rattle.la_journal.specs.Machine.{steps, steps_from}
 use Rattle.la_durable.specs.CallLines.{CallLine}
-use Rattle.la_durable.specs.Nodes.{node_call, parcel_of}
-use Rattle.la_durable.specs.Restarts.{IsCallOf, LeadBetween, RestartsTakeCalls}
-use Rattle.la_world.specs.Moments.{op_submitted}
-use Rattle.la_serve.specs.Once.{MayGoOn, AddsUnder, AsksUnder, IsAskedByLine, GoesOnOver, NumbersCountOnce}
+use Rattle.la_durable.specs.Nodes.{acts, acts_by, step}
 use Rattle.la_serve.specs.Serving.{AreTurns}
 use Rattle.la_serve.specs.Said.{why_word, unfit, asks_of, IsSaidUnder, IsSaidUnlessFit}
 use Rattle.la_serve.specs.Takes.{taken_tags}
 use Rattle.la_serve.specs.Turns.{ServerState, Turn, OneOf, own_of, only_says, is_note, IsCallTaken, IsSaidTurn}
 use Rattle.la_serve.specs.Turns.{HasFault, SaysCall, IsCallTurn, IsQuestionTurn, IsTakeTurn, IsRequestTurn}
 use Rattle.la_serve.specs.Turns.{IsShortTurn, IsTurn}
-use Rattle.la_serve.proofs.Processes.{call_of_line, where_some, where_then}
+use Rattle.la_serve.proofs.Processes.{call_of_line, where_some}
 use Rattle.la_serve.proofs.Submissions.{ProposersGoOn, GoesOnWith, step_goes}
 use Rattle.la_serve.proofs.TurnKinds.{IsHeardSo, one_of, what}
 
@@ -305,108 +300,77 @@ module _ (laws : ProposersGoOn) (objects : List (ℕ × Kind)) where
       let goes = (turn_goes n k t may are.0).1 in
       let rest = goes_on t.after after (k + 1) turns goes.may are.1 in (rest.0, rest.1 ∙ goes.own)
 
--- ## Lives
-
-is_submission : NodeCall → Bool
-is_submission (Submitted d) = true
-is_submission (Proposed k value) = false
-is_submission (Received m) = false
-
-op_or : ObjectOp → NodeCall → ObjectOp
-op_or d (Submitted e) = e
-op_or d (Proposed k value) = d
-op_or d (Received m) = d
-
-no_submission : (commit value : ℕ) (d : ObjectOp) → Proposed commit value ≡ Submitted d → ⊥
-unfolding is_submission
-no_submission commit value d e = false≢true (ap is_submission e)
-
-same_op : (d e : ObjectOp) → Submitted d ≡ Submitted e → d ≡ e
-unfolding op_or
-same_op d e same = ap (op_or d) same
-
-no_receipt : (q : ReplicaState) (m : WireMessage) (d : ObjectOp) → node_call q (Receive m) ≡ Some (Submitted d) → ⊥
-unfolding is_submission
-no_receipt q m d e =
-    let p = parcel_of m in
-    let inner = (where_then (m.replicas == length q.votes) (parcel_call q p) (Submitted d) e).1 in
-    let same = (where_some (unwraps q p) (Received (unwrapped_in q p)) (Submitted d) inner).1 in
-    false≢true (ap is_submission same)
-
-module _ (laws : ProposersGoOn) (handed : List CallLine) where
-  -- what a line says that asks this
-  asked_by : (q : ReplicaState) (call : NodeCall) → IsCallOf handed q call → (d : ObjectOp)
-      → Contains (op_submitted call) d → IsAskedByLine q.own handed d
-  asked_by q (Proposed k value) is x has = absurd (Contains-none x has)
-  asked_by q (Received m) is x has = absurd (Contains-none x has)
-  asked_by q (Submitted e) is x has =
-      elim (Contains-cons_cases e [] x has) [
-        | inl same ↦ submits is.says refl is.is same
-        | inr none ↦ absurd (Contains-none x none)
-      ]
-    where
-      submits : (says : WireCall) → is.says ≡ says → node_call q says ≡ Some (Submitted e) → e ≡ x
-          → IsAskedByLine q.own handed x
-      submits (Submit replica object does) same to this =
-          let own = where_some (replica == q.own) (Submitted (op_on object does)) (Submitted e) to in
-          let asked : op_on object does ≡ x = same_op (op_on object does) e own.1 ∙ this in
-          record {
-            line = is.line;
-            among = is.among;
-            says =
-                is.named ∙ ap Some same
-                ∙ ap (λ r. Some (Submit r object does)) (eqb-true replica q.own own.0)
-                ∙ ap (λ (o : ObjectOp). Some (Submit q.own o.object o.op)) asked;
-          }
-      submits (Decide replica commit value) same to this =
-          absurd
-          (no_submission commit value e (where_some (replica == q.own) (Proposed commit value) (Submitted e) to).1)
-      submits (Ask replica object query) same to this = absurd (none-some (Submitted e) to)
-      submits Tick same to this = absurd (none-some (Submitted e) to)
-      submits (Known standing) same to this = absurd (none-some (Submitted e) to)
-      submits (Receive m) same to this = absurd (no_receipt q m e to)
-
-  lead_goes : (calls : List NodeCall) (q after : ReplicaState) → MayGoOn q → LeadBetween handed calls q after
-      → GoesOnOver handed q after
-  lead_goes [] q after may is = record {
-    may = subst MayGoOn is may;
-    own = ap (λ (s : ReplicaState). s.own) (sym is);
-    more = [];
-    adds = ap submissions_by (sym is) ∙ sym (append-nil (submissions_by q));
-    asked = λ d has. absurd (Contains-none d has);
-  }
-  lead_goes (call ∷ calls) q after may is =
-      let made = some_of (λ (x : Given × ReplicaState). x.1) (node_step q call) is.1.0 is.1.1 in
-      let first = step_goes laws q may call made.0 made.1 in
-      let next = is.1.0 in
-      let own : next.own ≡ q.own = ap (λ (s : ReplicaState). s.own) (sym made.2) ∙ first.own in
-      let adds : submissions_by next ≡ submissions_by q ++ op_submitted call =
-      ap submissions_by (sym made.2) ∙ first.adds in
-      let rest = lead_goes calls next after (subst MayGoOn made.2 first.may) is.1.2 in
-      record {
-        may = rest.may;
-        own = rest.own ∙ own;
-        more = op_submitted call ++ rest.more;
-        adds =
-            rest.adds ∙ ap (λ ds. ds ++ rest.more) adds
-            ∙ append_assoc (submissions_by q) (op_submitted call) rest.more;
-        asked = λ d has. elim (Contains-append_cases (op_submitted call) rest.more d has) [
-          | inl here ↦ asked_by q call is.0 d here
-          | inr later ↦ subst (λ o. IsAskedByLine o handed d) own (rest.asked d later)
-        ];
-      }
-
-pub numbers_count : ProposersGoOn → SaySubmissions → RestartsTakeCalls → NumbersCountOnce
-numbers_count laws say takes = record {
+pub numbers_count : ProposersGoOn → SaySubmissions → NumbersCountOnce
+numbers_count laws say = record {
   once = λ objects n k number t may is asks. once laws say objects n k number t may asks is;
   answered =
       λ objects n k number t more may is asks text. answered laws say objects n k number t may asks more is text;
   stays = λ objects n after k number turns d may are is. stays laws objects n after k number turns d may are is;
   goes_on = λ objects n after k turns may are. goes_on laws objects n after k turns may are;
-  restarts = λ start n after handed file may leads to.
-      let by = takes start n after handed file leads to in lead_goes laws handed by.0 n after may by.1;
-  stays_over = λ start n after handed file number d may leads to is.
-      let by = takes start n after handed file leads to in
-      let goes = lead_goes laws handed by.0 n after may by.1 in
-      ap (λ ds. object_op_number ds number) goes.adds ∙ under_more (submissions_by n) goes.more number d is;
 }
+
+-- ## Over lives
+
+-- the call of a line that was taken
+call_said : (before after : ReplicaState) (o : Option WireCall)
+    → option_map (λ (made : Given × ReplicaState). made.1) (acts_by before o) ≡ Some after
+    → (call : WireCall) × (given : Given) × (acts before call ≡ Some (given, after))
+call_said before after None e = absurd (none-some after e)
+call_said before after (Some call) e = let made = made_is (acts before call) e in (call, made.0, made.1)
+  where
+    made_is : (o : Option (Given × ReplicaState)) → option_map (λ (made : Given × ReplicaState). made.1) o ≡ Some after
+        → (given : Given) × (o ≡ Some (given, after))
+    made_is None e = absurd (none-some after e)
+    made_is (Some made) e = (made.0, ap (λ (q : ReplicaState). Some (made.0, q)) (same_Some made.1 after e))
+
+nowhere : (calls : List CallLine) → steps_from step calls None ≡ None
+nowhere [] = refl
+nowhere (c ∷ calls) = nowhere calls
+
+module _ (laws : ProposersGoOn) where
+  call_stands : (before after : ReplicaState) (c : CallLine) → MayGoOn before → step before c ≡ Some after
+      → StandsOn before after
+  call_stands before after c may e =
+      let said = call_said before after (named_call c.line) e in
+      let call = call_of_line before said.0 (said.1, after) said.2 in
+      let goes = step_goes laws before may call.0 (said.1, after) call.2 in (
+        (λ number d is.
+        ap (λ ds. object_op_number ds number) goes.adds ∙ under_more (submissions_by before) _ number d is),
+        goes.may,
+        goes.own,
+      )
+
+  calls_from : (before after : ReplicaState) (calls : List CallLine) (o : Option ReplicaState) → MayGoOn before
+      → ((mid : ReplicaState) → o ≡ Some mid → StandsOn before mid) → steps_from step calls o ≡ Some after
+      → StandsOn before after
+  calls_from before after [] o may stands led = stands after led
+  calls_from before after (c ∷ calls) None may stands led =
+      absurd (none-some after (sym (nowhere calls) ∙ led))
+  calls_from before after (c ∷ calls) (Some mid) may stands led =
+      let here = stands mid refl in
+      calls_from before after calls (step mid c) may
+      (λ next e.
+      let then = call_stands mid next c here.1 e in (
+        (λ number d is. then.0 number d (here.0 number d is)),
+        then.1,
+        then.2 ∙ here.2,
+      )) led
+
+  stays_itself : (before mid : ReplicaState) → MayGoOn before → Some before ≡ Some mid → StandsOn before mid
+  stays_itself before mid may e =
+      subst (StandsOn before) (same_Some before mid e) ((λ number d is. is), may, refl)
+
+  calls_stand : (before after : ReplicaState) (calls : List CallLine) → MayGoOn before
+      → steps step calls before ≡ Some after → StandsOn before after
+  calls_stand before after calls may led =
+      calls_from before after calls (Some before) may (λ mid e. stays_itself before mid may e) led
+
+  pub over_lives : {D : Type 0} (seen : D → List ℕ) (may_leave : D → List ℕ → Type 0) (moment : D → ℕ)
+      (left_since : D → ℕ → List ℕ → Type 0) → NodeLivesAreOneRun seen may_leave moment left_since
+      → NumbersCountOverLives seen may_leave moment left_since
+  over_lives seen may_leave moment left_since run = record {
+    lives = λ fresh first after lives file may are leads.
+        let whole = run fresh first lives file are in
+        calls_stand first after whole.0 may (sym whole.2 ∙ leads);
+    calls = calls_stand;
+  }

@@ -36,7 +36,6 @@ use Rattle.la_node.specs.Taking.{Taken, takes, then_votes, vote_due, with_vote, 
 use Rattle.la_node.proofs.lemmas.Items.{get_put}
 use Rattle.la_node.proofs.lemmas.SecondVotes.{second_vote_in_is}
 use Rattle.la_node.proofs.lemmas.Stepping.{some_of, was_accepted}
-use Rattle.la_world.specs.Moments.{op_submitted}
 use Rattle.la_serve.specs.Numbered.{submissions_at, submissions_by}
 use Rattle.la_serve.specs.Once.{MayGoOn}
 
@@ -265,8 +264,14 @@ module _ (laws : ProposersGoOn) (r : ReplicaState) (may : MayGoOn r) where
       voted_goes m.instance s.0 (vote_due m.instance r.own s.0.0.said) y
       (receipt_goes laws r may m from s.0 fits spares s.1) refl s.2
 
+  -- what a call adds
+  abbrev pub added : NodeCall → List ObjectOp
+  added (Submitted d) = d ∷ []
+  added (Proposed k value) = []
+  added (Received m) = []
+
   pub step_goes : (call : NodeCall) (made : Given × ReplicaState) → node_step r call ≡ Some made
-      → GoesOnWith (op_submitted call) r made.1
+      → GoesOnWith (added call) r made.1
   unfolding step_given
   step_goes (Submitted d) made e =
       let both = was_accepted r (Submitted d) made e in

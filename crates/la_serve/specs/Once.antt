@@ -1,18 +1,20 @@
 -- Submissions under numbers, over all lines that a node takes: each counts once.
-use Rattle.std.specs.Prelude.{◌≡◌, ◌⊎◌, ℕ, ◌+◌, List, [], ◌∷◌, ◌++◌, length, Contains, Some, IsTrue}
+use Rattle.std.specs.Prelude.{◌≡◌, ◌⊎◌, ℕ, ◌+◌, List, [], ◌∷◌, ◌++◌, length, Some, IsTrue}
 use Rattle.la_set.specs.ObjectOps.{ObjectOp}
 use Rattle.la_object.specs.declared.kind.Kind.{Kind}
-use Rattle.la_journal.specs.Machine.{LeadsToSome}
 use Rattle.la_proposer.specs.Resuming.{may_resume}
 use Rattle.la_replica.specs.Invariant.{IsOf}
 use Rattle.la_replica.specs.ReplicaState.{ReplicaState, InInstance}
 use Rattle.la_wire.specs.Calls.{Submit}
 use Rattle.la_wire.specs.CallLines.{named_call}
 use Rattle.la_wire.specs.Notes.{submitted_note}
+use Rattle.la_journal.specs.Lives.{Life}
+use Rattle.la_journal.specs.Machine.{steps}
 use Rattle.la_durable.specs.CallLines.{CallLine}
 use Rattle.la_durable.specs.Nodes.{step}
 use Rattle.la_durable.specs.Restarts.{leads_from}
 use Rattle.la_serve.specs.Heard.{HeardLine}
+use Rattle.la_serve.specs.Lives.{AreNodeLives}
 use Rattle.la_serve.specs.Numbered.{submissions_by, submission_under}
 use Rattle.la_serve.specs.Turns.{ServerState, Turn, IsTurn}
 use Rattle.la_serve.specs.Serving.{AreTurns}
@@ -30,21 +32,6 @@ AddsUnder number d before after =
 pub record AsksUnder (own : ℕ) (heard : HeardLine) (number : ℕ) (d : ObjectOp) : Type 0 where
   pub numbered : heard.number ≡ Some number
   pub says : named_call heard.call ≡ Some (Submit own d.object d.op)
-
--- a line of these asks to submit this
-pub record IsAskedByLine (own : ℕ) (lines : List CallLine) (d : ObjectOp) : Type 0 where
-  pub line : CallLine
-  pub among : Contains lines line
-  pub says : named_call line.line ≡ Some (Submit own d.object d.op)
-
--- what was submitted between two moments of a replica's lives: only what these lines ask, behind all that it had
--- submitted
-pub record GoesOnOver (lines : List CallLine) (before after : ReplicaState) : Type 0 where
-  pub may : MayGoOn after
-  pub own : after.own ≡ before.own
-  pub more : List ObjectOp
-  pub adds : submissions_by after ≡ submissions_by before ++ more
-  pub asked : (d : ObjectOp) → Contains more d → IsAskedByLine before.own lines d
 
 pub record NumbersCountOnce : Type 0 where
   -- a line under a number leaves the replica as it was, or adds what it asks, where the number comes next
@@ -64,12 +51,23 @@ pub record NumbersCountOnce : Type 0 where
   -- which lead to a node that may go on, of the same replica
   pub goes_on : (objects : List (ℕ × Kind)) (n after : ServerState) (k : ℕ) (turns : List Turn) →
       MayGoOn n.kept → AreTurns objects n k turns after → MayGoOn after.kept × (after.kept.own ≡ n.kept.own)
-  -- A node was this when it last gave something out, was then handed these lines, and killed, and started again on what
-  -- the crash left. So it goes on in a further life, with all that it had submitted, each under its number.
-  pub restarts : (start n after : ReplicaState) (handed : List CallLine) (file : List ℕ) →
-      MayGoOn n → LeadsToSome (leads_from start) step handed n file → leads_from start file ≡ Some after →
-      GoesOnOver handed n after
-  -- and what stood under a number stands there
-  pub stays_over : (start n after : ReplicaState) (handed : List CallLine) (file : List ℕ) (number : ℕ) (d : ObjectOp) →
-      MayGoOn n → LeadsToSome (leads_from start) step handed n file → leads_from start file ≡ Some after →
-      submission_under n number ≡ Some d → submission_under after number ≡ Some d
+
+-- ## Over lives
+
+-- what stood under a number stands there, and the node may go on, as the same replica
+abbrev pub StandsOn : (before after : ReplicaState) → Type 0
+StandsOn before after =
+    ((number : ℕ) (d : ObjectOp) → submission_under before number ≡ Some d → submission_under after number ≡ Some d)
+    × MayGoOn after × (after.own ≡ before.own)
+
+pub record NumbersCountOverLives {D : Type 0} (seen : D → List ℕ) (may_leave : D → List ℕ → Type 0) (moment : D → ℕ)
+    (left_since : D → ℕ → List ℕ → Type 0) : Type 0 where
+  -- So it is of a node that is started again where the last of its lives left its journal, whatever moments they ended
+  -- at: no number is given to another submission, and none is forgotten.
+  pub lives : (fresh first after : ReplicaState) (lives : List (Life CallLine)) (file : List ℕ) → MayGoOn first →
+      AreNodeLives seen may_leave moment left_since fresh first lives file → leads_from fresh file ≡ Some after →
+      StandsOn first after
+  -- And of one that was killed behind a text that it gave out: from where it was then its journal leads by some calls
+  -- (`KilledNodesGoOn`), and what it had answered as submitted stands there.
+  pub calls : (before after : ReplicaState) (calls : List CallLine) → MayGoOn before →
+      steps step calls before ≡ Some after → StandsOn before after

@@ -1,6 +1,6 @@
 -- What is said of a line that the journal does not gain.
 use Rattle.std.specs.Prelude.{◌≡◌, ◌≢◌, ◌⊎◌, ◌≤◌, ◌<◌, ⊤, ℕ, ◌==◌, nat_le, Bool, true, false, List, [], ◌++◌}
-use Rattle.std.specs.Prelude.{filter, codes}
+use Rattle.std.specs.Prelude.{filter, codes, IsSome}
 use Rattle.std.specs.Prelude.{length, Option, Some, None, slice_get, if◌then◌else◌}
 use Rattle.std.specs.Option.{is_some}
 use Rattle.la_set.specs.declared.counts.Counts.{Counts}
@@ -75,11 +75,12 @@ IsSaidText Is (said.Refused w) = w ≡ why.Memory
 abbrev pub shelf_by : List (ℕ × Kind) → ReplicaState → ShelfState
 shelf_by objects n = record { view = n.view; objects = objects }
 
--- an object's answer, or that there is no such object
+-- an object's answer, or that there is no such object; `Memory` is told only of one that is there
 abbrev pub IsSaidAnswer : (own object : ℕ) → (name : List ℕ) → Option Answer → Said → Type 0
 IsSaidAnswer own object name o (said.Lines text) =
     (answer : Answer) × (o ≡ Some answer) × (text.items ≡ answered_note own object answer name)
-IsSaidAnswer own object name o (said.Refused w) = ((w ≡ why.NoSuchObject) × (o ≡ None)) ⊎ (w ≡ why.Memory)
+IsSaidAnswer own object name o (said.Refused w) =
+    ((w ≡ why.NoSuchObject) × (o ≡ None)) ⊎ ((w ≡ why.Memory) × IsSome o)
 
 -- the live tags of an element, where they are no more than a remove may name
 abbrev pub IsSaidTags : (own object : ℕ) → (name : List ℕ) → Option (List UpdateId) → Said → Type 0
@@ -88,13 +89,13 @@ IsSaidTags own object name o (said.Lines text) =
 IsSaidTags own object name o (said.Refused w) =
     ((w ≡ why.NoSuchObject) × (o ≡ None))
     ⊎ (((w ≡ why.TooManyTags) × ((tags : List UpdateId) × (o ≡ Some tags) × (MAX_TAGS < length tags)))
-    ⊎ (w ≡ why.Memory))
+    ⊎ ((w ≡ why.Memory) × IsSome o))
 
 -- why no tags are told
 abbrev pub IsUntagged : Option (List UpdateId) → ShelfError → Type 0
 IsUntagged o NoSuchObject = o ≡ None
 IsUntagged o TooManyTags = (tags : List UpdateId) × (o ≡ Some tags) × (MAX_TAGS < length tags)
-IsUntagged o Memory = ⊤
+IsUntagged o Memory = IsSome o
 IsUntagged o Taken = ⊥
 IsUntagged o NotFresh = ⊥
 

@@ -2,7 +2,7 @@
 ghost use Rattle.la_serve.specs.Lives.{KilledNodesGoOn, NodeLivesAreOneRun};
 ghost use Rattle.la_serve.specs.Processes.{NewProcessesAreTogether, TurnsKeepTogether, RestartsKeepTogether};
 ghost use Rattle.la_serve.specs.Processes.{ProcessesKeepAll, ProcessesKeepAllOfEvents};
-ghost use Rattle.la_serve.specs.Once.{MayGoOn, NumbersCountOnce};
+ghost use Rattle.la_serve.specs.Once.{MayGoOn, NumbersCountOnce, NumbersCountOverLives};
 ghost use Rattle.la_durable.specs.Nodes.{kept_by};
 
 use la_durable::NodeMachine;
@@ -56,9 +56,7 @@ pub fn processes_together_keep_promises()
 /// Submissions under numbers count once, over any lines that a node takes, whatever they are, late or again: a line under
 /// a number leaves the replica as it was, or adds just what it asks, as the update with this number, which came next. Of
 /// one that is answered as submitted that update is what it asks, and so it stays. So a client that numbers its
-/// submissions may send each again until it is answered: it is submitted once, or another has its number. This holds over
-/// any number of lives: a node that was killed and started again has all that it had submitted when it last gave
-/// something out, each under its number, and behind that only what lines ask that it was handed since.
+/// submissions may send each again until it is answered: it is submitted once, or another has its number.
 pub fn numbers_count_once()
     ensures { NumbersCountOnce }
 {
@@ -66,7 +64,18 @@ pub fn numbers_count_once()
     la_proposer::laws::proposers_may_be_resumed();
     la_proposer::laws::replies_submit_nothing();
     la_wire::laws::numbers_are_read_apart();
-    la_durable::laws::restarts_take_calls();
+}
+
+/// And so it is over lives: what stands under a number stands there however often the node is killed and started again, at
+/// whatever moments. So a client that was answered may send again to a node that came back, and its submission still
+/// counts once.
+pub fn numbers_count_over_lives<D: Disk>()
+    ensures { NumbersCountOverLives D.seen D.may_leave D.moment D.left_since }
+{
+    // hints to the prover: of lives, and of proposers
+    node_lives_are_one_run::<D>();
+    la_proposer::laws::proposers_may_be_resumed();
+    la_proposer::laws::replies_submit_nothing();
 }
 
 /// A node may go on at any time, as `numbers_count_once` has to know of the first: one that is new or started again too.

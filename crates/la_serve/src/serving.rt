@@ -1,6 +1,7 @@
-ghost use Rattle.std.specs.Prelude.{◌<◌, ◌≤◌, ◌≡◌, [], length, true, false, IfOk, IfErr, OnOk, OnErr};
+ghost use Rattle.std.specs.Prelude.{◌+◌, ◌<◌, ◌≤◌, ◌≡◌, [], length, true, false, IfOk, IfErr, OnOk, OnErr};
 ghost use Rattle.std.specs.Io.KnownBytes.{IsAtEnd};
 ghost use Rattle.la_journal.specs.Durable.{IsSettled};
+ghost use Rattle.la_journal.specs.Staging.{moments_for};
 ghost use Rattle.la_io.specs.Sources.{ahead, has_line};
 ghost use Rattle.la_serve.specs.Io.{TakesLines, OnlyStages, step_at, at_flush, io};
 ghost use Rattle.la_serve.specs.Faults.{IfDisk};
@@ -78,6 +79,7 @@ fn flush<W: Write + Drop, D: Disk, B: Replicated>(
     ensures same { (server.new.node.durable.machine ≡ server.old.node.durable.machine) × (server.new.shelf ≡ server.old.shelf) × (server.new.links ≡ server.old.links) }
     ensures later { D.faults server.old.node.durable.disk ≤ D.faults server.new.node.durable.disk }
     ensures failed { IfErr result (λ why. IfDisk why (D.faults server.old.node.durable.disk < D.faults server.new.node.durable.disk)) }
+    ensures once { OnOk result (D.moment server.new.node.durable.disk ≡ D.moment server.old.node.durable.disk + moments_for server.old.node.text.items) }
 {
     let bytes = server.node.text.len();
     match server.node.commit() {
@@ -110,6 +112,7 @@ fn prepare<W: Write + Drop, D: Disk, B: Replicated>(
     ensures same { (server.new.node.durable.machine ≡ server.old.node.durable.machine) × (server.new.shelf ≡ server.old.shelf) × (server.new.links ≡ server.old.links) }
     ensures later { D.faults server.old.node.durable.disk ≤ D.faults server.new.node.durable.disk }
     ensures failed { IfErr result (λ why. IfDisk why (D.faults server.old.node.durable.disk < D.faults server.new.node.durable.disk)) }
+    ensures together { has_line source.now ≡ true → length held.old.items < MOST_HELD → server.new ≡ server.old }
 {
     if source.has_line() && held.len() < MOST_HELD {
         return Ok(());

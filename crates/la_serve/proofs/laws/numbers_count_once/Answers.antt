@@ -15,4 +15,3 @@ returns c =
       numbered = c.numbers_are_read_apart.ensures.submits;
       written = c.numbers_are_read_apart.ensures.written;
     })
-    c.restarts_take_calls.ensures
