@@ -28,7 +28,7 @@ use Rattle.la_wire.specs.Calls.{WireCall, Submit, Decide, Ask, Tick, Receive, Kn
 use Rattle.la_durable.specs.Nodes.{acts, node_call, parcel_of, content_of}
 use Rattle.la_world.specs.LiveGroups.{learnt_by_call}
 use Rattle.la_world.specs.Together.{IsOfLetters, IsBrought}
-use Rattle.la_embed.specs.Together.{IsCallOfSent, learnt_by_host}
+use Rattle.la_embed.specs.Together.{IsCallOfSent, IsReceipt, learnt_by_host}
 
 -- ## A call, where it is accepted
 
@@ -164,6 +164,7 @@ module _ (letters : List Letter) (r : ℕ) (q : ReplicaState) (own : q.own ≡ r
 pub record IsActionOf (letters : List Letter) (r : ℕ) (q : ReplicaState) (call : WireCall) (given : Given)
     (made : ReplicaState) : Type 0 where
   pub action : NodeCall
+  pub asked : node_call q call ≡ Some action
   pub brought : IsBrought letters r q action
   pub learnt : learnt_by_host r call given ≡ learnt_by_call r action given.said
   pub step : node_step q action ≡ Some (given, made)
@@ -179,8 +180,17 @@ action_of letters r q call given made own sent e =
     let so = brought letters r q own call does.0 does.1 sent was.0 in
     record {
       action = does.0;
+      asked = does.1;
       brought = so.0;
       learnt = so.1 given;
       step = does.2;
       own = own_given q does.0 (given, made) was.1 ∙ own;
     }
+
+-- what is received is a receipt
+pub is_receipt : (q : ReplicaState) (m : WireMessage) (action : NodeCall) → node_call q (Receive m) ≡ Some action
+    → IsReceipt action
+is_receipt q m action e =
+    let p = parcel_of m in
+    let inner = (where_then (m.replicas == length q.votes) (parcel_call q p) action e).1 in
+    subst IsReceipt (where_some (unwraps q p) (Received (unwrapped_in q p)) action inner).1 tt

@@ -12,11 +12,13 @@ use Rattle.la_replica.specs.declared.message.Message as code
 use Rattle.la_replica.specs.Messages.{group}
 use Rattle.la_replica.specs.Progress.{progress_of}
 use Rattle.la_replica.specs.ReplicaState.{ReplicaState, start}
+use Rattle.la_node.specs.declared.config.Config.{Config}
 use Rattle.la_node.specs.declared.link.Letter.{Letter}
 use Rattle.la_node.specs.declared.link.Links.{Links}
 use Rattle.la_node.specs.declared.link.Standing.{Standing}
 use Rattle.la_node.specs.declared.link.Sending.{Sending}
 use Rattle.la_node.specs.declared.link.Sending.TheVariants as sending
+use Rattle.la_node.specs.Calls.{NodeCall}
 use Rattle.la_node.specs.Links.{letters_of, letters_sent, is_chosen, is_lacked, answered_with, asked_with}
 use Rattle.la_node.specs.Links.{standing_of, wants_standing}
 use Rattle.la_node.specs.Steps.{Given}
@@ -30,18 +32,20 @@ use Rattle.la_wire.specs.Writable.{IsTypedMessage}
 use Rattle.la_world.specs.Calls.{replica_states_at_start}
 use Rattle.la_world.specs.LiveGroups.{LearntSet}
 use Rattle.la_world.specs.Together.{AreTogether, NewReplicasAreTogether, CallsKeepTogether, RepeatsKeepTogether}
-use Rattle.la_world.specs.Together.{ViewsTogetherAreComparable, CommitsTogetherAgree}
-use Rattle.la_world.proofs.lemmas.Letters.{mapped_has, some_letters}
+use Rattle.la_world.specs.Moments.{TogetherKeepAll, TogetherKeepAllOfEvents}
+use Rattle.la_world.proofs.lemmas.Letters.{some_letters}
 use Rattle.la_embed.specs.declared.outgoing.Outgoing.{Outgoing}
 use Rattle.la_embed.specs.declared.outgoing.Outgoing.TheVariants as out
 use Rattle.la_embed.specs.Hosts.{HostState, IsHostStep, IsPutAgain, IsMendedIf, IsPosted, IsToldBack}
 use Rattle.la_embed.specs.Hosts.{host_of, with_links, with_mail, with_noted, with_letter, with_letters}
 use Rattle.la_embed.specs.Receiving.{TakesHostLine, TakesRead, AnswersIf, IsTaken, BringsOwn, own_first, links_by}
-use Rattle.la_embed.specs.Together.{kept_of_hosts, AreHostsTogether, AreStillTogether, IsLineOfSent}
+use Rattle.la_durable.specs.Nodes.{node_call}
+use Rattle.la_embed.specs.Together.{kept_of_hosts, AreHostsTogether, AreStillTogether, IsReceipt, IsNoCall}
+use Rattle.la_embed.specs.Together.{IsLineOfSent}
 use Rattle.la_embed.specs.Together.{IsCallOfSent, learnt_by_host, NewHostsAreTogether, StepsKeepHostsTogether}
 use Rattle.la_embed.specs.Together.{LinesKeepHostsTogether, OwnMailKeepsHostsTogether, RepeatsKeepHostsTogether}
-use Rattle.la_embed.specs.Together.{OthersKeepHostsTogether, HostViewsAreComparable, HostCommitsAgree}
-use Rattle.la_embed.proofs.Stepping.{action_of}
+use Rattle.la_embed.specs.Together.{OthersKeepHostsTogether, HostsKeepAll, HostsKeepAllOfEvents}
+use Rattle.la_embed.proofs.Stepping.{action_of, is_receipt}
 
 -- ## Places of a list
 
@@ -192,8 +196,9 @@ and_right : (a b : Bool) → (a && b) ≡ true → b ≡ true
 and_right true b e = e
 and_right false b e = absurd (false≢true e)
 
-module _ (hosts : List HostState) (letters : List Letter) (learnt : List LearntSet) (r : ℕ) (before : HostState)
-    (are : AreHostsTogether hosts letters learnt) (at : slice_get hosts r ≡ Some before) where
+module _ (c : Config) (past : List (ℕ × NodeCall)) (hosts : List HostState) (letters : List Letter)
+    (learnt : List LearntSet) (r : ℕ) (before : HostState) (are : AreHostsTogether c past hosts letters learnt)
+    (at : slice_get hosts r ≡ Some before) where
   at_kept : slice_get (kept_of_hosts hosts) r ≡ Some before.kept
   at_kept = get_kept hosts r before at
 
@@ -203,12 +208,14 @@ module _ (hosts : List HostState) (letters : List Letter) (learnt : List LearntS
   pub waiting : AreSent before.mail letters
   waiting letter has = are.sent r before letter at has
 
-  -- once one of them is this, with letters more
-  with_more : (after : HostState) (more : List Letter) (sets : List LearntSet)
-      → AreTogether (slice_set (kept_of_hosts hosts) r after.kept) (letters ++ more) sets → after.kept.own ≡ r
-      → AreSent after.mail (letters ++ more) → AreHostsTogether (slice_set hosts r after) (letters ++ more) sets
-  with_more after more sets together here sent = record {
-    together = subst (λ ss. AreTogether ss (letters ++ more) sets) (sym (set_kept hosts r after)) together;
+  -- once one of them is this, with calls and letters more
+  with_more : (newer : List (ℕ × NodeCall)) (after : HostState) (more : List Letter) (sets : List LearntSet)
+      → AreTogether c (newer ++ past) (slice_set (kept_of_hosts hosts) r after.kept) (letters ++ more) sets
+      → after.kept.own ≡ r → AreSent after.mail (letters ++ more)
+      → AreHostsTogether c (newer ++ past) (slice_set hosts r after) (letters ++ more) sets
+  with_more newer after more sets together here sent = record {
+    together =
+        subst (λ ss. AreTogether c (newer ++ past) ss (letters ++ more) sets) (sym (set_kept hosts r after)) together;
     places = set_each (λ s k. k.kept.own ≡ s) hosts r after are.places here;
     sent =
         λ s k letter is has.
@@ -219,134 +226,151 @@ module _ (hosts : List HostState) (letters : List Letter) (learnt : List LearntS
 
   -- where it keeps the same
   same_more : (after : HostState) (more : List Letter) → after.kept ≡ before.kept
-      → AreTogether (kept_of_hosts hosts) (letters ++ more) learnt → AreSent after.mail (letters ++ more)
-      → AreHostsTogether (slice_set hosts r after) (letters ++ more) learnt
+      → AreTogether c past (kept_of_hosts hosts) (letters ++ more) learnt → AreSent after.mail (letters ++ more)
+      → AreHostsTogether c past (slice_set hosts r after) (letters ++ more) learnt
   same_more after more same together sent =
       let states : kept_of_hosts hosts ≡ slice_set (kept_of_hosts hosts) r after.kept =
       sym (ap (slice_set (kept_of_hosts hosts) r) same ∙ set_same (kept_of_hosts hosts) r before.kept at_kept) in
-      with_more after more learnt (subst (λ ss. AreTogether ss (letters ++ more) learnt) states together)
+      with_more [] after more learnt (subst (λ ss. AreTogether c past ss (letters ++ more) learnt) states together)
       (ap (λ (q : ReplicaState). q.own) same ∙ own) sent
 
   pub other_on : (after : HostState) → after.kept ≡ before.kept → AreSent after.mail letters
-      → AreHostsTogether (slice_set hosts r after) letters learnt
+      → AreHostsTogether c past (slice_set hosts r after) letters learnt
   other_on after same sent =
-      subst (λ ls. AreHostsTogether (slice_set hosts r after) ls learnt) (append-nil letters)
+      subst (λ ls. AreHostsTogether c past (slice_set hosts r after) ls learnt) (append-nil letters)
       (same_more after [] same
-      (subst (λ ls. AreTogether (kept_of_hosts hosts) ls learnt) (sym (append-nil letters)) are.together)
+      (subst (λ ls. AreTogether c past (kept_of_hosts hosts) ls learnt) (sym (append-nil letters)) are.together)
       (λ letter has. Contains-append_left letters [] letter (sent letter has)))
 
-  -- with no letters more, and no sets
-  none_more : (after : HostState) → AreHostsTogether (slice_set hosts r after) letters learnt
-      → AreStillTogether hosts letters learnt r after
-  none_more after still =
-      let sets = subst (λ xs. AreHostsTogether (slice_set hosts r after) letters xs)
-      (sym (append-nil learnt)) still in (
-        [],
-        (
-          [],
-          subst (λ ls. AreHostsTogether (slice_set hosts r after) ls (learnt ++ [])) (sym (append-nil letters))
-              sets,
-        ),
-      )
-
-  pub quiet_on : (after : HostState) → after.kept ≡ before.kept → AreSent after.mail letters
-      → AreStillTogether hosts letters learnt r after
-  quiet_on after same sent = none_more after (other_on after same sent)
+  -- with no letters more, no calls, and no sets
+  pub quiet_on : (Is : NodeCall → Type 0) (after : HostState) → after.kept ≡ before.kept → AreSent after.mail letters
+      → AreStillTogether c past hosts letters learnt r Is after
+  quiet_on Is after same sent = record {
+    newer = [];
+    of_host = λ x has. absurd (Contains-none x has);
+    more = [];
+    said = [];
+    together =
+        subst (λ ls. AreHostsTogether c past (slice_set hosts r after) ls (learnt ++ [])) (sym (append-nil letters))
+        (subst (λ xs. AreHostsTogether c past (slice_set hosts r after) letters xs) (sym (append-nil learnt))
+        (other_on after same sent));
+  }
 
   pub step_on : CallsKeepTogether → (after : HostState) (heard : Links) (call : WireCall) (given : Given)
       → IsCallOfSent letters call → IsHostStep before heard call given after
-      → AreHostsTogether (slice_set hosts r after) (letters ++ letters_of heard after.kept given.mail)
-      (learnt ++ learnt_by_host r call given)
-  step_on calls after heard call given sent step =
+      → (action : NodeCall) × (node_call before.kept call ≡ Some action)
+      × AreHostsTogether c ((r, action) ∷ past) (slice_set hosts r after)
+      (letters ++ letters_of heard after.kept given.mail) (learnt ++ learnt_by_host r call given)
+  step_on keep after heard call given sent step =
       let is = action_of letters r before.kept call given after.kept own sent step.does in
       let more = letters_of heard after.kept given.mail in
-      with_more after more (learnt ++ learnt_by_host r call given)
-      (subst (λ xs. AreTogether (slice_set (kept_of_hosts hosts) r after.kept) (letters ++ more) (learnt ++ xs))
-      (sym is.learnt)
-      (calls (kept_of_hosts hosts) letters learnt r before.kept after.kept is.action given heard are.together at_kept
-      is.brought is.step)) is.own
-      (posted heard after.kept given.mail before.mail after.mail after.links letters waiting step.mail)
-
-  again_on : RepeatsKeepTogether → (links : Links) (why : Sending) (after : HostState) (noted : Links)
-      → after.kept ≡ before.kept → IsPutAgain before.kept links why before.mail after.mail noted
-      → AreStillTogether hosts letters learnt r after
-  again_on again links why after noted same (sent, whole, told, (is, now)) =
-      let more = letters_sent links before.kept why sent in (
-        more,
-        (
-          [],
-          subst (λ xs. AreHostsTogether (slice_set hosts r after) (letters ++ more) xs) (sym (append-nil learnt))
-              (same_more after more same
-              (again (kept_of_hosts hosts) letters learnt r before.kept sent links (is_chosen links why) are.together
-              at_kept whole told)
-              (subst (λ ms. AreSent ms (letters ++ more)) (sym is)
-              (put_behind before.kept.own before.mail letters more waiting))),
-        ),
+      let all = (r, is.action) ∷ past in (
+        is.action,
+        is.asked,
+        with_more ((r, is.action) ∷ []) after more (learnt ++ learnt_by_host r call given)
+            (subst
+            (λ xs. AreTogether c all (slice_set (kept_of_hosts hosts) r after.kept) (letters ++ more) (learnt ++ xs))
+            (sym is.learnt)
+            (keep c past (kept_of_hosts hosts) letters learnt r before.kept after.kept is.action given heard
+            are.together at_kept is.brought is.step)) is.own
+            (posted heard after.kept given.mail before.mail after.mail after.links letters waiting step.mail),
       )
 
+  again_on : RepeatsKeepTogether → (Is : NodeCall → Type 0) (links : Links) (why : Sending) (after : HostState)
+      (noted : Links) → after.kept ≡ before.kept → IsPutAgain before.kept links why before.mail after.mail noted
+      → AreStillTogether c past hosts letters learnt r Is after
+  again_on again Is links why after noted same (sent, whole, told, (is, now)) =
+      let more = letters_sent links before.kept why sent in
+      record {
+        newer = [];
+        of_host = λ x has. absurd (Contains-none x has);
+        more = more;
+        said = [];
+        together =
+            subst (λ xs. AreHostsTogether c past (slice_set hosts r after) (letters ++ more) xs)
+            (sym (append-nil learnt))
+            (same_more after more same
+            (again c past (kept_of_hosts hosts) letters learnt r before.kept sent links (is_chosen links why)
+            are.together at_kept whole told)
+            (subst (λ ms. AreSent ms (letters ++ more)) (sym is)
+            (put_behind before.kept.own before.mail letters more waiting)));
+      }
+
   -- what a replica lacks was told anew, or nothing was
-  mended_on : RepeatsKeepTogether → (lacks : Bool) (links : Links) (replica : ℕ) (after : HostState) (noted : Links)
-      → after.kept ≡ before.kept → IsMendedIf lacks before.kept links replica before.mail after.mail noted
-      → AreStillTogether hosts letters learnt r after
-  mended_on again false links replica after noted same (lost, now) =
-      quiet_on after same (subst (λ ms. AreSent ms letters) (sym lost) waiting)
-  mended_on again true links replica after noted same (inl sent) =
-      again_on again links (sending.Lack replica) after noted same sent
-  mended_on again true links replica after noted same (inr (lost, now)) =
-      quiet_on after same (subst (λ ms. AreSent ms letters) (sym lost) waiting)
+  mended_on : RepeatsKeepTogether → (Is : NodeCall → Type 0) (lacks : Bool) (links : Links) (replica : ℕ)
+      (after : HostState) (noted : Links) → after.kept ≡ before.kept
+      → IsMendedIf lacks before.kept links replica before.mail after.mail noted
+      → AreStillTogether c past hosts letters learnt r Is after
+  mended_on again Is false links replica after noted same (lost, now) =
+      quiet_on Is after same (subst (λ ms. AreSent ms letters) (sym lost) waiting)
+  mended_on again Is true links replica after noted same (inl sent) =
+      again_on again Is links (sending.Lack replica) after noted same sent
+  mended_on again Is true links replica after noted same (inr (lost, now)) =
+      quiet_on Is after same (subst (λ ms. AreSent ms letters) (sym lost) waiting)
 
   -- how far the host is was told to another, or taken by itself
-  answered_on : RepeatsKeepTogether → (is_own : Bool) (links : Links) (s : Standing) (after : HostState)
-      → AnswersIf is_own (with_links before links) s after → AreStillTogether hosts letters learnt r after
-  answered_on again false links s after (told, is) =
-      quiet_on after (ap (λ (h : HostState). h.kept) is)
+  answered_on : RepeatsKeepTogether → (Is : NodeCall → Type 0) (is_own : Bool) (links : Links) (s : Standing)
+      (after : HostState) → AnswersIf is_own (with_links before links) s after
+      → AreStillTogether c past hosts letters learnt r Is after
+  answered_on again Is false links s after (told, is) =
+      quiet_on Is after (ap (λ (h : HostState). h.kept) is)
       (told_back s before.mail after.mail letters told waiting)
-  answered_on again true links s after (mended, is) =
+  answered_on again Is true links s after (mended, is) =
       let heard = answered_with links s in
-      mended_on again (is_lacked heard s.from) heard s.from after after.links (ap (λ (h : HostState). h.kept) is) mended
+      mended_on again Is (is_lacked heard s.from) heard s.from after after.links (ap (λ (h : HostState). h.kept) is)
+      mended
 
   -- what is received is of a letter that was sent
   taken_on : CallsKeepTogether → RepeatsKeepTogether → (after : HostState) (letter : Letter) (nothing : Bool)
       → IsCallOfSent letters (Receive (letter_message letter)) → IsTaken before letter nothing after
-      → AreStillTogether hosts letters learnt r after
-  taken_on calls again after letter true sent is =
+      → AreStillTogether c past hosts letters learnt r IsReceipt after
+  taken_on keep again after letter true sent is =
       let s = standing_of before.kept letter.parcel in
-      answered_on again (s.to == before.kept.own) (links_by before letter) s after is
-  taken_on calls again after letter false sent (given, step) =
+      answered_on again IsReceipt (s.to == before.kept.own) (links_by before letter) s after is
+  taken_on keep again after letter false sent (given, step) =
       let heard = links_by before letter in
-      let call = Receive (letter_message letter) in (
-        letters_of heard after.kept given.mail,
-        (
-          learnt_by_host r call given,
-          step_on calls after heard call given sent step,
-        ),
-      )
+      let m = letter_message letter in
+      let on = step_on keep after heard (Receive m) given sent step in
+      record {
+        newer = (r, on.0) ∷ [];
+        of_host = λ x has. elim (Contains-cons_cases (r, on.0) [] x has) [
+          | inl same ↦ (
+            ap (λ (y : ℕ × NodeCall). y.0) (sym same),
+            subst (λ (y : ℕ × NodeCall). IsReceipt y.1) same (is_receipt before.kept m on.0 on.1),
+          )
+          | inr none ↦ absurd (Contains-none x none)
+        ];
+        more = letters_of heard after.kept given.mail;
+        said = learnt_by_host r (Receive m) given;
+        together = on.2;
+      }
 
   read_on : CallsKeepTogether → RepeatsKeepTogether → (after : HostState) (says : Result WireCall LineFault)
       → ((m : WireMessage) → says ≡ Ok (Receive m) → m.to ≡ r → IsCallOfSent letters (Receive m))
-      → TakesRead before says after → AreStillTogether hosts letters learnt r after
-  read_on calls again after (Err fault) may takes = absurd takes
-  read_on calls again after (Ok (Submit replica object op)) may takes = absurd takes
-  read_on calls again after (Ok (Decide replica commit value)) may takes = absurd takes
-  read_on calls again after (Ok (Ask replica object query)) may takes = absurd takes
-  read_on calls again after (Ok Tick) may takes = absurd takes
-  read_on calls again after (Ok (Known s)) may (here, (mended, is)) =
+      → TakesRead before says after → AreStillTogether c past hosts letters learnt r IsReceipt after
+  read_on keep again after (Err fault) may takes = absurd takes
+  read_on keep again after (Ok (Submit replica object op)) may takes = absurd takes
+  read_on keep again after (Ok (Decide replica commit value)) may takes = absurd takes
+  read_on keep again after (Ok (Ask replica object query)) may takes = absurd takes
+  read_on keep again after (Ok Tick) may takes = absurd takes
+  read_on keep again after (Ok (Known s)) may (here, (mended, is)) =
       let heard = answered_with before.links s in
-      mended_on again (is_lacked heard s.from) heard s.from after after.links (ap (λ (h : HostState). h.kept) is) mended
-  read_on calls again after (Ok (Receive m)) may (letter, is, takes) =
+      mended_on again IsReceipt (is_lacked heard s.from) heard s.from after after.links
+      (ap (λ (h : HostState). h.kept) is) mended
+  read_on keep again after (Ok (Receive m)) may (letter, is, takes) =
       let to : letter.parcel.to ≡ r =
       eqb-true letter.parcel.to before.kept.own
       (and_right (letter.replicas == length before.kept.votes) (letter.parcel.to == before.kept.own) takes.here)
       ∙ own in
-      taken_on calls again after letter (wants_standing before.kept letter.parcel)
+      taken_on keep again after letter (wants_standing before.kept letter.parcel)
       (subst (λ x. IsCallOfSent letters (Receive x)) (sym is)
       (may m refl (sym (ap (λ (x : WireMessage). x.to) is) ∙ to))) takes.taken
 
   line_on : CallsKeepTogether → RepeatsKeepTogether → LettersAreReadBack → (after : HostState) (line : List ℕ)
-      → IsLineOfSent letters r line
-      → TakesHostLine before line after → AreStillTogether hosts letters learnt r after
-  line_on calls again back after line may takes =
-      read_on calls again after (bounded_call_of line)
+      → IsLineOfSent letters r line → TakesHostLine before line after
+      → AreStillTogether c past hosts letters learnt r IsReceipt after
+  line_on keep again back after line may takes =
+      read_on keep again after (bounded_call_of line)
       (λ m says to.
       let named : named_call line ≡ Some (Receive m) =
       when_short _ (call_of line) (Receive m) says in
@@ -367,45 +391,51 @@ set_twice [] r h k = refl
 set_twice (x ∷ xs) zero h k = refl
 set_twice (x ∷ xs) (suc r) h k = ap (λ hs. x ∷ hs) (set_twice xs r h k)
 
-once_more : (hosts : List HostState) (letters : List Letter) (learnt : List LearntSet) (r : ℕ) (left after : HostState)
-    → AreStillTogether (slice_set hosts r left) letters learnt r after → AreStillTogether hosts letters learnt r after
-once_more hosts letters learnt r left after on = (
-  on.0,
-  (
-    on.1.0,
-    subst (λ hs. AreHostsTogether hs (letters ++ on.0) (learnt ++ on.1.0)) (set_twice hosts r left after) on.1.1,
-  ),
-)
+once_more : (c : Config) (past : List (ℕ × NodeCall)) (hosts : List HostState) (letters : List Letter)
+    (learnt : List LearntSet) (r : ℕ) (Is : NodeCall → Type 0) (left after : HostState)
+    → AreStillTogether c past (slice_set hosts r left) letters learnt r Is after
+    → AreStillTogether c past hosts letters learnt r Is after
+once_more c past hosts letters learnt r Is left after on = record {
+  newer = on.newer;
+  of_host = on.of_host;
+  more = on.more;
+  said = on.said;
+  together =
+      subst (λ hs. AreHostsTogether c (on.newer ++ past) hs (letters ++ on.more) (learnt ++ on.said))
+      (set_twice hosts r left after) on.together;
+}
 
-own_on : CallsKeepTogether → RepeatsKeepTogether → LettersAreReadBack → (hosts : List HostState) (letters : List Letter)
-    (learnt : List LearntSet) (r : ℕ)
-    (before after : HostState) (brought : Bool) (o : Option Letter) → AreHostsTogether hosts letters learnt
+own_on : CallsKeepTogether → RepeatsKeepTogether → LettersAreReadBack → (c : Config) (past : List (ℕ × NodeCall))
+    (hosts : List HostState) (letters : List Letter) (learnt : List LearntSet) (r : ℕ) (before after : HostState)
+    (brought : Bool) (o : Option Letter) → AreHostsTogether c past hosts letters learnt
     → slice_get hosts r ≡ Some before → own_first before.kept before.mail ≡ o → BringsOwn before o brought after
-    → AreStillTogether hosts letters learnt r after
-own_on calls again back hosts letters learnt r before after brought None are at is (none, same) =
-    quiet_on hosts letters learnt r before are at after (ap (λ (h : HostState). h.kept) same)
-    (subst (λ (h : HostState). AreSent h.mail letters) (sym same) (waiting hosts letters learnt r before are at))
-own_on calls again back hosts letters learnt r before after brought (Some letter) are at is (first, how) =
+    → AreStillTogether c past hosts letters learnt r IsReceipt after
+own_on keep again back c past hosts letters learnt r before after brought None are at is (none, same) =
+    quiet_on c past hosts letters learnt r before are at IsReceipt after (ap (λ (h : HostState). h.kept) same)
+    (subst (λ (h : HostState). AreSent h.mail letters) (sym same)
+    (waiting c past hosts letters learnt r before are at))
+own_on keep again back c past hosts letters learnt r before after brought (Some letter) are at is (first, how) =
     let left = with_mail before (drop 1 before.mail) in
-    let sent = waiting hosts letters learnt r before are at in
+    let sent = waiting c past hosts letters learnt r before are at in
     let fewer : AreSent left.mail letters =
     λ l has. sent l (first_gone before.mail (out.Letter l) has) in
-    let still = other_on hosts letters learnt r before are at left refl fewer in
+    let still = other_on c past hosts letters learnt r before are at left refl fewer in
     let there = get_set hosts r before left at in
     let its = sent letter (own_waits before.kept before.mail letter is) in
     elim how [
       | inl takes ↦
-          once_more hosts letters learnt r left after
-          (taken_on (slice_set hosts r left) letters learnt r left still there calls again after letter
+          once_more c past hosts letters learnt r IsReceipt left after
+          (taken_on c past (slice_set hosts r left) letters learnt r left still there keep again after letter
           (wants_standing left.kept letter.parcel) (letter, its, refl) takes.taken)
       | inr other ↦ elim other [
         | inl line ↦
-            once_more hosts letters learnt r left after
-            (line_on (slice_set hosts r left) letters learnt r left still there calls again back after
+            once_more c past hosts letters learnt r IsReceipt left after
+            (line_on c past (slice_set hosts r left) letters learnt r left still there keep again back after
             (message_text (letter_message letter))
             (λ m named to. (letter, its, record { typed = line.0; text = refl })) line.1)
         | inr lost ↦
-            quiet_on hosts letters learnt r before are at after (ap (λ (h : HostState). h.kept) lost)
+            quiet_on c past hosts letters learnt r before are at IsReceipt after
+            (ap (λ (h : HostState). h.kept) lost)
             (subst (λ (h : HostState). AreSent h.mail letters) (sym lost) fewer)
       ]
     ]
@@ -431,7 +461,7 @@ in_range first (suc many) (suc i) x e =
 
 pub new_ones : NewReplicasAreTogether → NewHostsAreTogether
 new_ones new c config = record {
-  together = subst (λ ss. AreTogether ss [] []) (sym (kept_of_new (replica_states_at_start c))) (new c config);
+  together = subst (λ ss. AreTogether c [] ss [] []) (sym (kept_of_new (replica_states_at_start c))) (new c config);
   places = λ r h at.
       let f : ℕ → ReplicaState = λ own. start (votes_of c.votes) own c.cap c.commits in
       let host = get_from host_of (replica_states_at_start c) r h at in
@@ -448,34 +478,31 @@ new_ones new c config = record {
 -- ## As they are stated
 
 pub steps : CallsKeepTogether → StepsKeepHostsTogether
-steps calls hosts letters learnt r before after heard call given are at sent step =
-    step_on hosts letters learnt r before are at calls after heard call given sent step
+steps keep c calls hosts letters learnt r before after heard call given are at sent step =
+    step_on c calls hosts letters learnt r before are at keep after heard call given sent step
 
 pub lines : CallsKeepTogether → RepeatsKeepTogether → LettersAreReadBack → LinesKeepHostsTogether
-lines calls again back hosts letters learnt r before after line are at may takes =
-    line_on hosts letters learnt r before are at calls again back after line may takes
+lines keep again back c calls hosts letters learnt r before after line are at may takes =
+    line_on c calls hosts letters learnt r before are at keep again back after line may takes
 
 pub own_mail : CallsKeepTogether → RepeatsKeepTogether → LettersAreReadBack → OwnMailKeepsHostsTogether
-own_mail calls again back hosts letters learnt r before after brought are at is =
-    own_on calls again back hosts letters learnt r before after brought (own_first before.kept before.mail) are at refl
-    is
+own_mail keep again back c calls hosts letters learnt r before after brought are at is =
+    own_on keep again back c calls hosts letters learnt r before after brought (own_first before.kept before.mail) are
+    at refl is
 
 pub repeats : RepeatsKeepTogether → RepeatsKeepHostsTogether
-repeats again hosts letters learnt r before mail noted are at is =
-    again_on hosts letters learnt r before are at again (asked_with before.links (progress_of before.kept))
-    sending.Timer (with_noted before mail noted) noted refl is
+repeats again c calls hosts letters learnt r before mail noted are at is =
+    again_on c calls hosts letters learnt r before are at again IsNoCall
+    (asked_with before.links (progress_of before.kept)) sending.Timer (with_noted before mail noted) noted refl is
 
 pub others : OthersKeepHostsTogether
-others hosts letters learnt r before after are at same waits =
-    other_on hosts letters learnt r before are at after same
+others c calls hosts letters learnt r before after are at same waits =
+    other_on c calls hosts letters learnt r before are at after same
     (λ letter has. are.sent r before letter at (waits letter has))
 
-pub host_views : ViewsTogetherAreComparable → HostViewsAreComparable
-host_views views hosts letters learnt a b are has_a has_b =
-    views (kept_of_hosts hosts) letters learnt a.kept b.kept are.together
-    (mapped_has (λ (h : HostState). h.kept) hosts a has_a) (mapped_has (λ (h : HostState). h.kept) hosts b has_b)
+pub all_kept : TogetherKeepAll → HostsKeepAll
+all_kept keep c more calls before after letters others noted now was is =
+    keep c more calls (kept_of_hosts before) (kept_of_hosts after) letters others noted now was.together is.together
 
-pub host_commits : CommitsTogetherAgree → HostCommitsAgree
-host_commits agree hosts letters learnt a b k o p are has_a has_b =
-    agree (kept_of_hosts hosts) letters learnt a.kept b.kept k o p are.together
-    (mapped_has (λ (h : HostState). h.kept) hosts a has_a) (mapped_has (λ (h : HostState). h.kept) hosts b has_b)
+pub events_kept : TogetherKeepAllOfEvents → HostsKeepAllOfEvents
+events_kept keep c calls hosts letters learnt are = keep c calls (kept_of_hosts hosts) letters learnt are.together

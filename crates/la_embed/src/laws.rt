@@ -4,14 +4,15 @@ ghost use Rattle.la_embed.specs.Learnt.{EachIsHandedOnce};
 ghost use Rattle.la_embed.specs.Together.{NewHostsAreTogether, StepsKeepHostsTogether, LinesKeepHostsTogether};
 ghost use Rattle.la_embed.specs.Together.{OwnMailKeepsHostsTogether, RepeatsKeepHostsTogether};
 ghost use Rattle.la_embed.specs.Together.{OthersKeepHostsTogether, RestartsKeepHostsTogether};
-ghost use Rattle.la_embed.specs.Together.{HostViewsAreComparable, HostCommitsAgree};
+ghost use Rattle.la_embed.specs.Together.{HostsKeepAll, HostsKeepAllOfEvents};
 
 use la_durable::NodeMachine;
 
 /// Hosts of a group are together, and stay so: over each step of one of them, whatever line it takes, be it late,
 /// again, in any order or never, what it sends to itself, and what it sends again. Whatever is pulled from one of them
 /// was sent by it. Of a host whose mail was lost for want of memory this holds too, as if a transport had lost it; and of
-/// one that crashed and was recovered ([`crashes_keep_what_was_told`]).
+/// one that crashed and was recovered ([`crashes_keep_what_was_told`]). All calls that they took are known: one of a step,
+/// only messages of a line or of own mail, and after a crash those that the journal's lines say.
 pub fn hosts_stay_together()
     ensures new { NewHostsAreTogether }
     ensures calls { StepsKeepHostsTogether }
@@ -27,11 +28,12 @@ pub fn hosts_stay_together()
     la_wire::laws::letters_are_read_back_or_not();
 }
 
-/// Of hosts that are together any two views are comparable; and where one commits a value in an adopt-commit object,
-/// all that return from that return it.
+/// Of hosts that are together, over all moments, and whichever crashed and was recovered: any two views, and sets that
+/// were learnt, are comparable, and made of what was submitted; no view shrinks, and an outcome stays; and all else that
+/// [`la_world::live::replicas_together_keep_promises`] says, by the same words.
 pub fn hosts_together_keep_promises()
-    ensures views { HostViewsAreComparable }
-    ensures commits { HostCommitsAgree }
+    ensures all { HostsKeepAll }
+    ensures events { HostsKeepAllOfEvents }
 {
     // a hint to the prover: of replicas
     la_world::live::replicas_together_keep_promises();

@@ -23,6 +23,7 @@ use Rattle.la_replica.specs.ReplicaState.{ReplicaState, start, sender_of, after_
 use Rattle.la_replica.specs.Steps.{learnt_in}
 use Rattle.la_replica.specs.Steps as steps
 use Rattle.la_replica.specs.Whole.{Message, Out}
+use Rattle.la_node.specs.declared.config.Config.{Config}
 use Rattle.la_node.specs.declared.link.Letter.{Letter}
 use Rattle.la_node.specs.declared.link.Sending.TheVariants as sending
 use Rattle.la_node.specs.Links.{letters_of, letters_sent, is_chosen}
@@ -46,12 +47,14 @@ use Rattle.la_world.proofs.lemmas.Letters.{some_letters}
 use Rattle.la_world.specs.LiveGroups.{LearntSet, learnt_set, learnt_by_call}
 use Rattle.la_world.specs.Together.{AreTogether, IsOfLetters, IsBrought, LeadBrought, NewReplicasAreTogether}
 use Rattle.la_world.specs.Together.{CallsKeepTogether, FewerLettersKeepTogether, LostCallsKeepTogether}
-use Rattle.la_world.specs.Together.{RepeatsKeepTogether}
+use Rattle.la_world.specs.Together.{RepeatsKeepTogether, newest_first}
+use Rattle.la_world.specs.Moments.{TogetherKeepAll, TogetherKeepAllOfEvents}
 use Rattle.la_serve.specs.Heard.{HeardLine}
 use Rattle.la_serve.specs.Turns.{ServerState, Turn, noted_by}
 use Rattle.la_serve.specs.Starting.{newly_started}
 use Rattle.la_serve.specs.Processes.{kept_of_all, AreProcesses, IsLineOf, IsHandedCall, IsHandedLine}
-use Rattle.la_serve.specs.Processes.{NewProcessesAreTogether, TurnsKeepTogether, RestartsKeepTogether}
+use Rattle.la_serve.specs.Processes.{AreCallsOfTurn, NewProcessesAreTogether, TurnsKeepTogether, RestartsKeepTogether}
+use Rattle.la_serve.specs.Processes.{ProcessesKeepAll, ProcessesKeepAllOfEvents}
 use Rattle.la_serve.proofs.TurnKinds.{IsQuiet, IsHeardSo, Repeats, Takes, IsWhat, what}
 
 -- ## What a node reads of a letter
@@ -85,7 +88,7 @@ pub where_some : {A : Type 0} (b : Bool) (k call : A) → cond b (Some k) None �
 where_some true k call e = (refl, same_Some k call e)
 where_some false k call e = absurd (none-some call e)
 
-where_then : {A : Type 0} (b : Bool) (o : Option A) (call : A) → cond b o None ≡ Some call → (b ≡ true) × (o ≡ Some
+pub where_then : {A : Type 0} (b : Bool) (o : Option A) (call : A) → cond b o None ≡ Some call → (b ≡ true) × (o ≡ Some
     call)
 where_then true o call e = (refl, e)
 where_then false o call e = absurd (none-some call e)
@@ -246,12 +249,12 @@ set_each P (x ∷ xs) (suc r) m all here (suc s) k e =
     set_each (λ j. P (suc j)) xs r m (λ j. all (suc j)) here s k e
 
 -- the same by equal parts
-moved : (states states2 : List ReplicaState) (letters letters2 : List Letter) (learnt learnt2 : List LearntSet)
-    → states ≡ states2 → letters ≡ letters2 → learnt ≡ learnt2 → AreTogether states letters learnt
-    → AreTogether states2 letters2 learnt2
-moved states states2 letters letters2 learnt learnt2 p q s are =
-    subst (λ x. AreTogether states2 letters2 x) s
-    (subst (λ x. AreTogether states2 x learnt) q (subst (λ x. AreTogether x letters learnt) p are))
+moved : (c : Config) (calls : List (ℕ × NodeCall)) (states states2 : List ReplicaState) (letters letters2 : List Letter)
+    (learnt learnt2 : List LearntSet) → states ≡ states2 → letters ≡ letters2 → learnt ≡ learnt2
+    → AreTogether c calls states letters learnt → AreTogether c calls states2 letters2 learnt2
+moved c calls states states2 letters letters2 learnt learnt2 p q s are =
+    subst (λ x. AreTogether c calls states2 letters2 x) s
+    (subst (λ x. AreTogether c calls states2 x learnt) q (subst (λ x. AreTogether c calls x letters learnt) p are))
 
 -- ## They stay together
 
@@ -270,8 +273,9 @@ handed_so say letters r h (inr (take, tags, is)) handed =
     absurd (say take.replica take.object (op.Remove tags) (Receive m)
     (sym (ap (λ (x : HeardLine). named_call x.call) is) ∙ says))
 
-module _ (nodes : List ServerState) (letters : List Letter) (learnt : List LearntSet) (r : ℕ) (n : ServerState)
-    (are : AreProcesses nodes letters learnt) (at : slice_get nodes r ≡ Some n) where
+module _ (c : Config) (calls : List (ℕ × NodeCall)) (nodes : List ServerState) (letters : List Letter)
+    (learnt : List LearntSet) (r : ℕ) (n : ServerState) (are : AreProcesses c calls nodes letters learnt)
+    (at : slice_get nodes r ≡ Some n) where
   at_kept : slice_get (kept_of_all nodes) r ≡ Some n.kept
   at_kept = get_kept nodes r n at
 
@@ -288,37 +292,45 @@ module _ (nodes : List ServerState) (letters : List Letter) (learnt : List Learn
       sym (set_kept nodes r m ∙ ap (slice_set (kept_of_all nodes) r) same
       ∙ set_same (kept_of_all nodes) r n.kept at_kept)
 
-  quiet_on : (t : Turn) → IsQuiet n t
-      → AreProcesses (slice_set nodes r t.after) (letters ++ t.sent) (learnt ++ t.learnt)
-  quiet_on t q = record {
-    together =
-        moved (kept_of_all nodes) (kept_of_all (slice_set nodes r t.after)) letters (letters ++ t.sent) learnt
-        (learnt ++ t.learnt) (same_states t.after q.1)
-        (sym (ap (λ ls. letters ++ ls) q.2 ∙ append-nil letters))
-        (sym (ap (λ ls. learnt ++ ls) q.3 ∙ append-nil learnt)) are.together;
-    own = owns_on t.after (ap (λ (s : ReplicaState). s.own) q.1 ∙ own);
-  }
+  -- after a turn, with the calls that it took
+  abbrev AreStill : Turn → Type 0
+  AreStill t = (more : List (ℕ × NodeCall)) × AreCallsOfTurn r n t more
+      × AreProcesses c (more ++ calls) (slice_set nodes r t.after) (letters ++ t.sent) (learnt ++ t.learnt)
 
-  again_on : RepeatsKeepTogether → (t : Turn) → Repeats n t
-      → AreProcesses (slice_set nodes r t.after) (letters ++ t.sent) (learnt ++ t.learnt)
+  quiet_on : (t : Turn) → IsQuiet n t → AreStill t
+  quiet_on t q = (
+    [],
+    inl refl,
+    record {
+      together =
+          moved c calls (kept_of_all nodes) (kept_of_all (slice_set nodes r t.after)) letters (letters ++ t.sent) learnt
+          (learnt ++ t.learnt) (same_states t.after q.1)
+          (sym (ap (λ ls. letters ++ ls) q.2 ∙ append-nil letters))
+          (sym (ap (λ ls. learnt ++ ls) q.3 ∙ append-nil learnt)) are.together;
+      own = owns_on t.after (ap (λ (s : ReplicaState). s.own) q.1 ∙ own);
+    },
+  )
+
+  again_on : RepeatsKeepTogether → (t : Turn) → Repeats n t → AreStill t
   again_on again t (known, over, why, it) =
-      let kept : t.after.kept ≡ n.kept = ap (λ (u : Turn). u.after.kept) it.turn in
-      record {
-        together =
-            moved (kept_of_all nodes) (kept_of_all (slice_set nodes r t.after)) _ (letters ++ t.sent) learnt
-            (learnt ++ t.learnt) (same_states t.after kept)
-            (sym (ap (λ (u : Turn). letters ++ u.sent) it.turn))
-            (sym (ap (λ (u : Turn). learnt ++ u.learnt) it.turn ∙ append-nil learnt))
-            (again (kept_of_all nodes) letters learnt r n.kept it.mail over (is_chosen over why) are.together at_kept
-            it.whole it.over);
-        own = owns_on t.after (ap (λ (s : ReplicaState). s.own) kept ∙ own);
-      }
+      let kept : t.after.kept ≡ n.kept = ap (λ (u : Turn). u.after.kept) it.turn in (
+        [],
+        inl refl,
+        record {
+          together =
+              moved c calls (kept_of_all nodes) (kept_of_all (slice_set nodes r t.after)) _ (letters ++ t.sent) learnt
+              (learnt ++ t.learnt) (same_states t.after kept)
+              (sym (ap (λ (u : Turn). letters ++ u.sent) it.turn))
+              (sym (ap (λ (u : Turn). learnt ++ u.learnt) it.turn ∙ append-nil learnt))
+              (again c calls (kept_of_all nodes) letters learnt r n.kept it.mail over (is_chosen over why) are.together
+              at_kept it.whole it.over);
+          own = owns_on t.after (ap (λ (s : ReplicaState). s.own) kept ∙ own);
+        },
+      )
 
   took_on : SubmissionsAreReadSo → CallsKeepTogether → FewerLettersKeepTogether → LettersAreReadBack → (t : Turn)
-      → Takes n t
-      → IsHandedLine letters r t.heard.line
-      → AreProcesses (slice_set nodes r t.after) (letters ++ t.sent) (learnt ++ t.learnt)
-  took_on say calls fewer back t it handed =
+      → Takes n t → IsHandedLine letters r t.heard.line → AreStill t
+  took_on say keep fewer back t it handed =
       let given = it.taken.given in
       let does = call_of_line n.kept it.call (given, t.after.kept) it.taken.acted in
       let so = brought letters r n.kept own does.0 (accepted n.kept does.0 (given, t.after.kept) does.2).0 it.call
@@ -327,37 +339,39 @@ module _ (nodes : List ServerState) (letters : List Letter) (learnt : List Learn
       let says : named_call t.heard.call ≡ Some (Receive m) = it.says ∙ ap Some same in
       of_letters back letters t.heard.call m says (handed_so say letters r t.heard it.heard handed m says to)) in
       let all = letters_of it.known t.after.kept given.mail in
-      let some = letters_sent it.known t.after.kept sending.Call given.mail in
-      record {
-        together =
-            moved (slice_set (kept_of_all nodes) r t.after.kept) (kept_of_all (slice_set nodes r t.after)) _
-            (letters ++ t.sent) _ (learnt ++ t.learnt) (sym (set_kept nodes r t.after))
-            (ap (λ ls. letters ++ ls) (sym it.taken.sent))
-            (ap (λ ls. learnt ++ ls) (sym (it.taken.learnt ∙ so.1 given)))
-            (fewer (slice_set (kept_of_all nodes) r t.after.kept) (letters ++ all) (letters ++ some) _
-            (calls (kept_of_all nodes) letters learnt r n.kept t.after.kept does.0 given it.known are.together at_kept
-            so.0 does.2)
-            (λ letter has. elim (Contains-append_cases letters some letter has) [
-              | inl old ↦ Contains-append_left letters all letter old
-              | inr new ↦
-                  Contains-append_right letters all letter
-                  (some_letters it.known t.after.kept (is_chosen it.known sending.Call) given.mail letter new)
-            ]));
-        own = owns_on t.after (own_step n.kept does.0 (given, t.after.kept) does.2 ∙ own);
-      }
+      let some = letters_sent it.known t.after.kept sending.Call given.mail in (
+        (r, does.0) ∷ [],
+        inr (does.0, refl, record { says = it.call; named = it.says; is = does.1 }),
+        record {
+          together =
+              moved c ((r, does.0) ∷ calls) (slice_set (kept_of_all nodes) r t.after.kept)
+              (kept_of_all (slice_set nodes r t.after)) _ (letters ++ t.sent) _ (learnt ++ t.learnt)
+              (sym (set_kept nodes r t.after)) (ap (λ ls. letters ++ ls) (sym it.taken.sent))
+              (ap (λ ls. learnt ++ ls) (sym (it.taken.learnt ∙ so.1 given)))
+              (fewer c ((r, does.0) ∷ calls) (slice_set (kept_of_all nodes) r t.after.kept) (letters ++ all)
+              (letters ++ some) _
+              (keep c calls (kept_of_all nodes) letters learnt r n.kept t.after.kept does.0 given it.known are.together
+              at_kept so.0 does.2)
+              (λ letter has. elim (Contains-append_cases letters some letter has) [
+                | inl old ↦ Contains-append_left letters all letter old
+                | inr new ↦
+                    Contains-append_right letters all letter
+                    (some_letters it.known t.after.kept (is_chosen it.known sending.Call) given.mail letter new)
+              ]));
+          own = owns_on t.after (own_step n.kept does.0 (given, t.after.kept) does.2 ∙ own);
+        },
+      )
 
   turn_on : SubmissionsAreReadSo → CallsKeepTogether → FewerLettersKeepTogether → RepeatsKeepTogether
-      → LettersAreReadBack → (t : Turn) → IsWhat n t
-      → IsHandedLine letters r t.heard.line
-      → AreProcesses (slice_set nodes r t.after) (letters ++ t.sent) (learnt ++ t.learnt)
-  turn_on say calls fewer again back t (inl quiet) handed = quiet_on t quiet
-  turn_on say calls fewer again back t (inr (inl repeats)) handed = again_on again t repeats
-  turn_on say calls fewer again back t (inr (inr takes)) handed = took_on say calls fewer back t takes handed
+      → LettersAreReadBack → (t : Turn) → IsWhat n t → IsHandedLine letters r t.heard.line → AreStill t
+  turn_on say keep fewer again back t (inl quiet) handed = quiet_on t quiet
+  turn_on say keep fewer again back t (inr (inl repeats)) handed = again_on again t repeats
+  turn_on say keep fewer again back t (inr (inr takes)) handed = took_on say keep fewer back t takes handed
 
 pub turns : SubmissionsAreReadSo → CallsKeepTogether → FewerLettersKeepTogether → RepeatsKeepTogether
     → LettersAreReadBack → TurnsKeepTogether
-turns say calls fewer again back nodes letters learnt objects r k n t are at is handed =
-    turn_on nodes letters learnt r n are at say calls fewer again back t (what objects n k t is) handed
+turns say keep fewer again back c calls nodes letters learnt objects r k n t are at is handed =
+    turn_on c calls nodes letters learnt r n are at say keep fewer again back t (what objects n k t is) handed
 
 -- ## Restarts
 
@@ -377,16 +391,21 @@ lead_brought back letters r handed may (call ∷ calls) q after own is =
     ((so.0, (is.1.0, is.1.1, rest.0)), rest.1)
 
 pub restarts : LostCallsKeepTogether → LettersAreReadBack → RestartsTakeCalls → RestartsKeepTogether
-restarts lost back takes nodes letters learnt r n start after handed file are at may leads to =
+restarts lost back takes c calls nodes letters learnt r n start after handed file are at may leads to =
     let by = takes start n.kept after handed file leads to in
-    let lead = lead_brought back letters r handed may by.0 n.kept after (own nodes letters learnt r n are at) by.1 in
-    record {
-      together =
-          subst (λ ss. AreTogether ss letters learnt) (sym (set_kept nodes r (newly_started after)))
-          (lost (kept_of_all nodes) letters learnt r n.kept after by.0 are.together
-          (at_kept nodes letters learnt r n are at) lead.0);
-      own = owns_on nodes letters learnt r n are at (newly_started after) lead.1;
-    }
+    let lead =
+    lead_brought back letters r handed may by.0 n.kept after (own c calls nodes letters learnt r n are at) by.1 in (
+      by.0,
+      by.1,
+      record {
+        together =
+            subst (λ ss. AreTogether c (newest_first r by.0 ++ calls) ss letters learnt)
+            (sym (set_kept nodes r (newly_started after)))
+            (lost c calls (kept_of_all nodes) letters learnt r n.kept after by.0 are.together
+            (at_kept c calls nodes letters learnt r n are at) lead.0);
+        own = owns_on c calls nodes letters learnt r n are at (newly_started after) lead.1;
+      },
+    )
 
 -- ## Started for the first time
 
@@ -406,7 +425,7 @@ get_state f (x ∷ rs) (suc i) q e = get_state f rs i q e
 
 pub new_ones : NewReplicasAreTogether → NewProcessesAreTogether
 new_ones new c nodes config are = record {
-  together = subst (λ ss. AreTogether ss [] []) (sym are) (new c config);
+  together = subst (λ ss. AreTogether c [] ss [] []) (sym are) (new c config);
   own = λ r n at.
       let f : ℕ → ReplicaState = λ own. start (votes_of c.votes) own c.cap c.commits in
       let rs : List ℕ = group (length (votes_of c.votes)) in
@@ -414,3 +433,12 @@ new_ones new c nodes config are = record {
       let plain : 0 + r ≡ r = omega arith in
       ap (λ (q : ReplicaState). q.own) (sym s.2) ∙ in_range 0 (length (votes_of c.votes)) r s.0 s.1 ∙ plain;
 }
+
+-- ## What they keep
+
+pub all_kept : TogetherKeepAll → ProcessesKeepAll
+all_kept keep c more calls before after letters others noted now was is =
+    keep c more calls (kept_of_all before) (kept_of_all after) letters others noted now was.together is.together
+
+pub events_kept : TogetherKeepAllOfEvents → ProcessesKeepAllOfEvents
+events_kept keep c calls nodes letters learnt are = keep c calls (kept_of_all nodes) letters learnt are.together

@@ -1,6 +1,7 @@
 //! What holds of nodes that are killed at any moment, by power or by force: laws that no code runs.
 ghost use Rattle.la_serve.specs.Lives.{KilledNodesGoOn, NodeLivesAreOneRun};
 ghost use Rattle.la_serve.specs.Processes.{NewProcessesAreTogether, TurnsKeepTogether, RestartsKeepTogether};
+ghost use Rattle.la_serve.specs.Processes.{ProcessesKeepAll, ProcessesKeepAllOfEvents};
 ghost use Rattle.la_serve.specs.Once.{MayGoOn, NumbersCountOnce};
 ghost use Rattle.la_durable.specs.Nodes.{kept_by};
 
@@ -26,8 +27,8 @@ pub fn node_lives_are_one_run<D: Disk>()
 
 /// Nodes of a group, each a process of its own, are together: whatever lines of theirs they take, be they late, again, in
 /// any order or never, whatever calls clients hand them, and whoever is killed at any moment and started again. So what
-/// they keep, the letters that they write and the sets that they note as learnt are those of one group, of which
-/// [`la_world::live::replicas_together_keep_promises`] says what holds.
+/// they keep, the letters that they write and the sets that they note as learnt are those of one group, by the calls that
+/// their lines said. What holds of it says [`processes_together_keep_promises`].
 pub fn processes_stay_together()
     ensures new { NewProcessesAreTogether }
     ensures turns { TurnsKeepTogether }
@@ -39,6 +40,17 @@ pub fn processes_stay_together()
     la_wire::laws::letters_are_read_back_or_not();
     la_wire::laws::numbers_are_read_apart();
     la_durable::laws::restarts_take_calls();
+}
+
+/// Of processes that are together, over all moments, and whoever is killed and started again: any two views, and sets
+/// that were noted as learnt, are comparable, and made of what was submitted; no view shrinks, and an outcome stays; and
+/// all else that [`la_world::live::replicas_together_keep_promises`] says, by the same words.
+pub fn processes_together_keep_promises()
+    ensures all { ProcessesKeepAll }
+    ensures events { ProcessesKeepAllOfEvents }
+{
+    // a hint to the prover: of replicas
+    la_world::live::replicas_together_keep_promises();
 }
 
 /// Submissions under numbers count once, over any lines that a node takes, whatever they are, late or again: a line under

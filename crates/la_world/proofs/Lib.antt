@@ -77,3 +77,4 @@ pub mod LiveParcels
 mod Repeats
 pub mod ToldFurther
 pub mod Together
+pub mod Moments

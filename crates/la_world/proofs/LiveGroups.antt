@@ -63,7 +63,12 @@ use Rattle.la_node.specs.Nodes.{NodeState}
 use Rattle.la_world.specs.Calls.{views_of, decisions_at}
 use Rattle.la_world.specs.Headline.{IsAdoptCommit}
 use Rattle.la_world.specs.Promises.{GroupKeepsAll}
-use Rattle.la_world.specs.LiveGroups.{LearntSet, LiveGroup, IsHeard, learnt_set, learnt_by_call, IsGroupStep, IsGroupStart, Reaches, live_group_of, learnt_set_of, StandsForEvents, live_event, IsAmong, IsReached, AreLive, replicas_of, decisions_of, LiveGroupsStandForEvents, LiveGroupsKeepAll, LiveLearntAreComparable, LiveViewsAreComparable, LiveNodesAreOneHistory, NewNodesAreLive, NetworksMayLose, CallsKeepLive, UnheardCallsKeepLive}
+use Rattle.la_world.specs.LiveGroups.{LearntSet, LiveGroup, IsHeard, learnt_set, learnt_by_call, IsGroupStep}
+use Rattle.la_world.specs.LiveGroups.{IsGroupStart, Reaches, live_group_of, learnt_set_of, StandsForEvents}
+use Rattle.la_world.specs.LiveGroups.{live_event, AreEventsOf, IsAmong, IsReached, AreLive, replicas_of, decisions_of}
+use Rattle.la_world.specs.LiveGroups.{LiveGroupsStandForEvents, LiveGroupsKeepAll, LiveLearntAreComparable}
+use Rattle.la_world.specs.LiveGroups.{LiveViewsAreComparable, LiveNodesAreOneHistory, NewNodesAreLive}
+use Rattle.la_world.specs.LiveGroups.{NetworksMayLose, CallsKeepLive, UnheardCallsKeepLive}
 use Rattle.la_world.specs.Rebased.{TellsAs, IsRetold, AreRetold}
 use Rattle.la_world.proofs.Lists.{AllIn, AllIn_at, IsIn_get, contains_IsIn, IsIn_contains, IsIn_mapped, IsIn_place, get_mapped, made_at}
 use Rattle.la_world.proofs.Openings.{IsOf}
@@ -415,18 +420,21 @@ decisions_are c group events stands =
     ap (λ ms. flat_map (decisions_at ms) (range_with_len 0 c.commits)) stands.led.replica_states
     ∙ decisions_made g (trace g events)
 
+-- of the events that it stands for
+pub group_keeps : (c : Config) (group : LiveGroup) (events : Past) → StandsForEvents c group events
+    → (let g = live_group_of c in
+    GroupKeepsAll g events (learnt (trace g events)) (views_of group.replicas) (decisions_of c group.replicas))
+group_keeps c group events s =
+    let g = live_group_of c in
+    subst (λ views. GroupKeepsAll g events (learnt (trace g events)) views (decisions_of c group.replicas))
+    (sym (views_are c group events s))
+    (trace_keeps g events (decisions_of c group.replicas)
+    (subst (IsAdoptCommit events) (sym (decisions_are c group events s))
+    (adopt_commit g events (few_of c [] s.config) s.led.legal)))
+
 pub keeps_all : LiveGroupsKeepAll
 keeps_all c calls group reached =
-    let (events, s, are) = groups_stand c calls group reached in
-    let g = live_group_of c in (
-      events,
-      are,
-      subst (λ views. GroupKeepsAll g events (learnt (trace g events)) views (decisions_of c group.replicas))
-          (sym (views_are c group events s))
-          (trace_keeps g events (decisions_of c group.replicas)
-          (subst (IsAdoptCommit events) (sym (decisions_are c group events s))
-          (adopt_commit g events (few_of c [] s.config) s.led.legal))),
-    )
+    let (events, s, are) = groups_stand c calls group reached in (events, are, group_keeps c group events s)
 
 pub learnt_comparable_live : LiveLearntAreComparable
 learnt_comparable_live c calls group reached x y has_x has_y same =
@@ -465,7 +473,7 @@ same_step a b r call before other same s z =
     ∙ sym z.learnt in
     λ j. record { replicas = states j; sent = sent_same j; learnt = learnt_same j }
 
-same_group : (c : Config) (calls : List (ℕ × NodeCall)) (a b : LiveGroup) → Reaches c calls a → Reaches c calls b
+pub same_group : (c : Config) (calls : List (ℕ × NodeCall)) (a b : LiveGroup) → Reaches c calls a → Reaches c calls b
     → a ≡ b
 unfolding Reaches
 same_group c [] a b s z =
@@ -477,20 +485,31 @@ same_group c (call ∷ calls) a b (before, reached, s) (other, also, z) =
     same_step a b call.0 call.1 before other (same_group c calls before other reached also) s z
 
 -- a group, and one to which more calls lead from it: of the second's events the older ones are the first's
-record ComesLater (c : Config) (calls : List (ℕ × NodeCall)) (after : LiveGroup) : Type 0 where
+pub record ComesLater (c : Config) (more calls : List (ℕ × NodeCall)) (after : LiveGroup) : Type 0 where
   pub middle : LiveGroup
   pub reached : Reaches c calls middle
   pub events : Past
   pub newer : Past
+  pub are : AreEventsOf calls events
+  pub newer_are : AreEventsOf more newer
   pub stood : StandsForEvents c middle events
   pub stands : StandsForEvents c after (newer ++ events)
 
-comes_later : (c : Config) (more calls : List (ℕ × NodeCall)) (after : LiveGroup) → Reaches c (more ++ calls) after
-    → ComesLater c calls after
+pub comes_later : (c : Config) (more calls : List (ℕ × NodeCall)) (after : LiveGroup) → Reaches c (more ++ calls) after
+    → ComesLater c more calls after
 unfolding Reaches
 comes_later c [] calls after reached =
     let s = groups_stand c calls after reached in
-    record { middle = after; reached = reached; events = s.0; newer = []; stood = s.1; stands = s.1 }
+    record {
+      middle = after;
+      reached = reached;
+      events = s.0;
+      newer = [];
+      are = s.2;
+      newer_are = tt;
+      stood = s.1;
+      stands = s.1;
+    }
 comes_later c (call ∷ more) calls after (before, reached, step) =
     let h = comes_later c more calls before reached in
     let next = step_stands c before (h.newer ++ h.events) h.stands call.0 call.1 after step in
@@ -499,6 +518,8 @@ comes_later c (call ∷ more) calls after (before, reached, step) =
       reached = h.reached;
       events = h.events;
       newer = live_event call.0 next.0 call.1 ∷ h.newer;
+      are = h.are;
+      newer_are = ((next.0, refl), h.newer_are);
       stood = h.stood;
       stands = next.1;
     }

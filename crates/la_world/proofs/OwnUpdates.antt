@@ -62,7 +62,7 @@ get_in_front (suc n) (suc k) (y ∷ xs) x lt e = get_in_front n k xs x (omega ar
 -- ## What was submitted
 
 -- what is in all that was submitted, by its number
-whole_number : (t : Trace) (i : ℕ) (u : Update) → ContainsUpdate (whole t i) u
+pub whole_number : (t : Trace) (i : ℕ) (u : Update) → ContainsUpdate (whole t i) u
     → object_op_number (submitted_ops t i u.id.replica) u.id.number ≡ Some (object_op_of u)
 whole_number t i u h =
     object_op_number-reads (history (whole t i) r) (submitted_ops t i r) begins u.id.number (object_op_of u)
@@ -181,8 +181,8 @@ taken_now x t b e plain =
     ap₂ (λ v w. taken_at b.ballot v w all (taken t i r)) (ap (only i r) e ∙ only_same b) plain
     ∙ cond-true (b.ballot == b.ballot) all (taken t i r b.ballot) (eq-eqb b.ballot b.ballot refl)
 
-ballots_still : (g : Group) (more events : List Event) (i r : ℕ) (b : Opening) → IsIn b (ballots (trace g events) i r)
-    → IsIn b (ballots (trace g (more ++ events)) i r)
+pub ballots_still : (g : Group) (more events : List Event) (i r : ℕ) (b : Opening)
+    → IsIn b (ballots (trace g events) i r) → IsIn b (ballots (trace g (more ++ events)) i r)
 unfolding trace
 ballots_still g [] events i r b h = h
 ballots_still g (e ∷ more) events i r b h =

@@ -41,7 +41,8 @@ decisions_more states n =
         ∙ ap (λ j. (f k ++ flat_map f (range_with_len (k + 1) n)) ++ f j) (omega arith)
 
 -- a replica of the trace, and an object of the group
-returned_is : (g : Group) (t : Trace) (k r : ℕ) → k < g.commits → returned_by k (replica_state g t r) ≡ returned t k r
+pub returned_is : (g : Group) (t : Trace) (k r : ℕ) → k < g.commits
+    → returned_by k (replica_state g t r) ≡ returned t k r
 unfolding replica_state instance_of
 returned_is g t k r lt =
     ap (option_and_then (λ s. outcome_of s r)) (ap learnt_of (get_instance g t r (second_instance k) (omega arith)))

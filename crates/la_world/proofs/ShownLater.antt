@@ -31,7 +31,7 @@ learnt_now place (Some b) x (inl same) e =
 learnt_now place (Some b) x (inr h) e = absurd h
 
 -- what it learnt it saw
-learnt_seen : (t : Trace) (x : Learnt) → IsIn x (learnt t) → x.instance ≡ 0 → IsIn x.updates (seen t x.replica)
+pub learnt_seen : (t : Trace) (x : Learnt) → IsIn x (learnt t) → x.instance ≡ 0 → IsIn x.updates (seen t x.replica)
 unfolding learnt seen
 learnt_seen [] x h e = absurd h
 learnt_seen (y ∷ t) x h e =

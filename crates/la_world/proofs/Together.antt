@@ -1,59 +1,90 @@
--- Replicas that run each by itself stay together, and keep what a live group keeps.
-use Rattle.std.proofs.Common.{◌≡◌, inl, inr, ℕ, ◌<◌, true, List, [], ◌∷◌, ◌++◌, map, filter, slice_get, slice_set}
-use Rattle.std.proofs.Common.{Contains, Option, Some, None, option_map, option_and_then, refl, sym, ap, subst, ◌∙◌}
-use Rattle.std.proofs.Common.{arith}
-use Rattle.std.proofs.Math.Logic.{∥∥₁_elim, ∥∥₁_map}
-use Rattle.std.proofs.Math.Nat.{ℕ_set}
+-- Replicas that run each by itself stay together.
+use Rattle.std.proofs.Common.{◌≡◌, inl, inr, ℕ, zero, suc, ◌<◌, List, [], ◌∷◌, ◌++◌, map, filter, slice_get}
+use Rattle.std.proofs.Common.{slice_set, Contains, Some, refl, sym, ap, subst, ◌∙◌, append_assoc, arith}
 use Rattle.std.proofs.lemmas.List.{map-append}
 use Rattle.std.proofs.lemmas.List.Elements.{Contains-append_left, Contains-append_right, Contains-append_cases}
-use Rattle.std.proofs.lemmas.List.FromFn.{length-map-range_with_len}
-use Rattle.std.proofs.lemmas.Option.{none-some, slice_get_within}
+use Rattle.std.proofs.lemmas.Option.{none-some}
 use Rattle.la_set.specs.Counts.{zero_counts}
 use Rattle.la_set.specs.Histories.{empty}
 use Rattle.la_set.proofs.lemmas.Filters.{Contains-none}
-use Rattle.la_commit.specs.declared.outcome.Outcome.{Outcome}
-use Rattle.la_commit.specs.Instances.{second_instance}
-use Rattle.la_commit.specs.Outcomes.{value_of, is_commit, outcome_of}
 use Rattle.la_object.specs.Shelves.{ShelfState}
-use Rattle.la_replica.specs.declared.instance.Instance.{Instance}
 use Rattle.la_replica.specs.declared.message.Message as code
 use Rattle.la_replica.specs.declared.parcel.Content.{Content}
 use Rattle.la_replica.specs.declared.parcel.Content.TheVariants as content
 use Rattle.la_replica.specs.declared.parcel.Parcel.{Parcel}
 use Rattle.la_replica.specs.Parcels.{AreAlikeContents, AreAlikeParcels, wrapped, unwrapped_in}
-use Rattle.la_replica.specs.ReplicaState.{ReplicaState, learnt_of}
+use Rattle.la_replica.specs.ReplicaState.{ReplicaState}
 use Rattle.la_node.specs.declared.config.Config.{Config}
 use Rattle.la_node.specs.declared.link.Letter.{Letter}
 use Rattle.la_node.specs.declared.link.Links.{Links}
 use Rattle.la_node.specs.Calls.{NodeCall, Submitted, Proposed, Received}
 use Rattle.la_node.specs.Links.{letters_of, no_links}
-use Rattle.la_node.specs.Nodes.{NodeState, returned_by}
+use Rattle.la_node.specs.Nodes.{NodeState}
 use Rattle.la_node.specs.Steps.{Given, node_step, after_call}
 use Rattle.la_node.proofs.lemmas.Items.{get_put}
 use Rattle.la_node.proofs.lemmas.Stepping.{some_of}
-use Rattle.la_world.specs.Calls.{replica_states_at_start, decision_by}
-use Rattle.la_world.specs.Groups.{Group, instances}
+use Rattle.la_world.specs.Calls.{replica_states_at_start}
 use Rattle.la_world.specs.LiveGroups.{LiveGroup, LearntSet, IsHeard, Reaches, learnt_by_call, IsReached}
-use Rattle.la_world.specs.LiveGroups.{live_group_of, replicas_of, decisions_of}
+use Rattle.la_world.specs.LiveGroups.{replicas_of}
 use Rattle.la_world.specs.LiveParcels.{IsParcelAmong, AreParcelsAmong, parcels_of, mail_on}
-use Rattle.la_world.specs.Outcomes.{decision_of}
-use Rattle.la_world.specs.Playing.{trace}
 use Rattle.la_world.specs.Rebased.{IsRetold, AreRetold}
-use Rattle.la_world.specs.ReplicaStates.{instance_of, replica_state}
-use Rattle.la_world.specs.Together.{IsTogether, AreTogether, IsBrought}
+use Rattle.la_world.specs.Together.{AreTogether, AreSomeInOrder, IsBrought, newest_first}
 use Rattle.la_world.specs.Together.{NewReplicasAreTogether, CallsKeepTogether, FewerLettersKeepTogether}
-use Rattle.la_world.specs.Together.{LostCallsKeepTogether}
-use Rattle.la_world.specs.Together.{RepeatsKeepTogether}
-use Rattle.la_world.specs.Together.{LearntTogetherAreComparable, ViewsTogetherAreComparable, CommitsTogetherAgree}
-use Rattle.la_world.specs.Trace.{Trace}
+use Rattle.la_world.specs.Together.{LostCallsKeepTogether, RepeatsKeepTogether}
 use Rattle.la_world.proofs.lemmas.Letters.{mapped_from, mapped_has, among}
-use Rattle.la_world.proofs.Lists.{IsIn_contains, contains_IsIn, IsIn_place, IsIn_filter, get_mapped}
-use Rattle.la_world.proofs.LiveGroups.{groups_stand, is_state, keeps_all, learnt_comparable_live}
-use Rattle.la_world.proofs.LiveGroups.{views_comparable_live, comparable_from, retold_of, put_put}
+use Rattle.la_world.proofs.Lists.{IsIn_contains, contains_IsIn, IsIn_filter, get_mapped}
+use Rattle.la_world.proofs.LiveGroups.{retold_of, put_put}
 use Rattle.la_world.proofs.LiveParcels.{parcel_is}
-use Rattle.la_world.proofs.Outcomes.{listed_by}
 use Rattle.la_world.proofs.ToldFurther.{sent_retold, again_retold}
 use Rattle.la_world.proofs.Worlds.{set_same}
+
+-- ## Some of a list, in its order
+
+pub some_same : {A : Type 0} (zs : List A) → AreSomeInOrder zs zs
+some_same [] = tt
+some_same (z ∷ zs) = inl (refl, some_same zs)
+
+some_behind : {A : Type 0} (ys zs : List A) → AreSomeInOrder zs (ys ++ zs)
+some_behind [] zs = some_same zs
+some_behind (y ∷ ys) [] = tt
+some_behind (y ∷ ys) (z ∷ zs) = inr (some_behind ys (z ∷ zs))
+
+some_more : {A : Type 0} (xs ys zs : List A) → AreSomeInOrder xs ys → AreSomeInOrder xs (ys ++ zs)
+some_more [] ys zs h = tt
+some_more (x ∷ xs) [] zs h = absurd h
+some_more (x ∷ xs) (y ∷ ys) zs (inl h) = inl (h.0, some_more xs ys zs h.1)
+some_more (x ∷ xs) (y ∷ ys) zs (inr h) = inr (some_more (x ∷ xs) ys zs h)
+
+some_both : {A : Type 0} (xs ys zs : List A) → AreSomeInOrder xs ys → AreSomeInOrder (xs ++ zs) (ys ++ zs)
+some_both [] ys zs h = some_behind ys zs
+some_both (x ∷ xs) [] zs h = absurd h
+some_both (x ∷ xs) (y ∷ ys) zs (inl h) = inl (h.0, some_both xs ys zs h.1)
+some_both (x ∷ xs) (y ∷ ys) zs (inr h) = inr (some_both (x ∷ xs) ys zs h)
+
+pub some_at : {A : Type 0} (xs ys : List A) (k : ℕ) (x : A) → AreSomeInOrder xs ys → slice_get xs k ≡ Some x
+    → (b : ℕ) × (slice_get ys b ≡ Some x)
+some_at [] ys k x h at = absurd (none-some x at)
+some_at (z ∷ xs) [] k x h at = absurd h
+some_at (z ∷ xs) (y ∷ ys) zero x (inl h) at = (0, ap Some (sym h.0) ∙ at)
+some_at (z ∷ xs) (y ∷ ys) (suc k) x (inl h) at = let b = some_at xs ys k x h.1 at in (suc b.0, b.1)
+some_at (z ∷ xs) (y ∷ ys) k x (inr h) at = let b = some_at (z ∷ xs) ys k x h at in (suc b.0, b.1)
+
+-- where two stand in it, the first before the second
+pub some_places : {A : Type 0} (xs ys : List A) (j k : ℕ) (x y : A) → AreSomeInOrder xs ys → slice_get xs j ≡ Some x
+    → slice_get xs k ≡ Some y → j < k
+    → (a : ℕ) × ((b : ℕ) × (a < b) × (slice_get ys a ≡ Some x) × (slice_get ys b ≡ Some y))
+some_places [] ys j k x y h p q lt = absurd (none-some x p)
+some_places (z ∷ xs) [] j k x y h p q lt = absurd h
+some_places (z ∷ xs) (u ∷ ys) zero zero x y (inl h) p q lt = absurd (omega arith)
+some_places (z ∷ xs) (u ∷ ys) zero (suc k) x y (inl h) p q lt =
+    let b = some_at xs ys k y h.1 q in (0, (suc b.0, omega arith, ap Some (sym h.0) ∙ p, b.1))
+some_places (z ∷ xs) (u ∷ ys) (suc j) zero x y (inl h) p q lt = absurd (omega arith)
+some_places (z ∷ xs) (u ∷ ys) (suc j) (suc k) x y (inl h) p q lt =
+    let w = some_places xs ys j k x y h.1 p q (omega arith) in
+    (suc w.0, (suc w.1.0, omega (arith, w.1.1), w.1.2, w.1.3))
+some_places (z ∷ xs) (u ∷ ys) j k x y (inr h) p q lt =
+    let w = some_places (z ∷ xs) ys j k x y h p q lt in
+    (suc w.0, (suc w.1.0, omega (arith, w.1.1), w.1.2, w.1.3))
 
 -- ## Parcels that say the same
 
@@ -93,13 +124,10 @@ letters_more letters messages links q mail of_these p has =
           (a.0, Contains-append_right messages (mail_on links mail) a.0 a.1, a.2)
     ]
 
-fewer : (states : List ReplicaState) (letters left : List Letter) (learnt said : List LearntSet)
-    → ((x : Letter) → Contains left x → Contains letters x)
-    → ((x : LearntSet) → Contains said x → Contains learnt x) → IsTogether states letters learnt
-    → IsTogether states left said
-fewer states letters left learnt said within told is = record {
-  config = is.config;
-  calls = is.calls;
+fewer : (c : Config) (calls : List (ℕ × NodeCall)) (states : List ReplicaState) (letters left : List Letter)
+    (learnt : List LearntSet) → ((x : Letter) → Contains left x → Contains letters x)
+    → AreTogether c calls states letters learnt → AreTogether c calls states left learnt
+fewer c calls states letters left learnt within is = record {
   group = is.group;
   reached = is.reached;
   are = is.are;
@@ -110,7 +138,7 @@ fewer states letters left learnt said within told is = record {
       let x = mapped_from (λ (letter : Letter). letter.parcel) left p has in
       subst (λ k. IsParcelAmong k is.messages) x.2
       (is.of_these x.0.parcel (mapped_has (λ (letter : Letter). letter.parcel) letters x.0 (within x.0 x.1)));
-  said = λ x has. is.said x (told x has);
+  said = is.said;
 }
 
 retold_more : (messages sent more : List code.Message) → AreRetold messages sent → AreRetold messages (sent ++ more)
@@ -128,22 +156,20 @@ both_retold messages more sent p q m has = elim (Contains-append_cases messages 
 
 pub new_together : NewReplicasAreTogether
 unfolding Reaches
-new_together c config = ∣ record {
-  config = c;
-  calls = [];
+new_together c config = record {
   group = record { replicas = replica_states_at_start c; sent = []; learnt = [] };
   reached = record { config = config; replicas = refl; sent = refl; learnt = refl };
   are = refl;
   messages = [];
   sent = λ m has. absurd (Contains-none m has);
   of_these = λ p has. absurd (Contains-none p has);
-  said = λ x has. absurd (Contains-none x has);
-} ∣₁
+  said = tt;
+}
 
 -- ## A call
 
--- a replica as a node, with whatever shelf
-abbrev unused : ShelfState
+-- without shelves
+unused : ShelfState
 unused = record { view = empty; objects = [] }
 
 abbrev as_node : ReplicaState → NodeState
@@ -153,12 +179,13 @@ same_replicas : (states : List ReplicaState) → replicas_of (map as_node states
 same_replicas [] = refl
 same_replicas (q ∷ states) = ap (λ qs. q ∷ qs) (same_replicas states)
 
-module _ (states : List ReplicaState) (letters : List Letter) (learnt : List LearntSet)
-    (is : IsTogether states letters learnt) (r : ℕ) (q : ReplicaState) (at : slice_get states r ≡ Some q) where
+module _ (c : Config) (calls : List (ℕ × NodeCall)) (states : List ReplicaState) (letters : List Letter)
+    (learnt : List LearntSet) (is : AreTogether c calls states letters learnt) (r : ℕ) (q : ReplicaState)
+    (at : slice_get states r ≡ Some q) where
   is_reached : IsReached (map as_node states) is.messages
   is_reached = record {
-    config = is.config;
-    calls = is.calls;
+    config = c;
+    calls = calls;
     group = is.group;
     reached = is.reached;
     replicas = is.are ∙ sym (same_replicas states);
@@ -179,20 +206,20 @@ module _ (states : List ReplicaState) (letters : List Letter) (learnt : List Lea
       subst (λ m. IsHeard (λ m. IsRetold m is.group.sent) r (Received m)) (sym same)
       (retold_of is.group.sent is.messages is.sent (unwrapped_in q p) (k, one, near), to)
 
-  called : (made : ReplicaState) (call : NodeCall) (given : Given) (links : Links) → IsBrought letters r q call
-      → node_step q call ≡ Some (given, made)
-      → IsTogether (slice_set states r made) (letters ++ letters_of links made given.mail)
-      (learnt ++ learnt_by_call r call given.said)
+  -- with some of the sets that were learnt, this one's or not
+  called : (made : ReplicaState) (call : NodeCall) (given : Given) (links : Links) (sets : List LearntSet)
+      → IsBrought letters r q call → node_step q call ≡ Some (given, made)
+      → AreSomeInOrder sets (is.group.learnt ++ learnt_by_call r call given.said)
+      → AreTogether c ((r, call) ∷ calls) (slice_set states r made) (letters ++ letters_of links made given.mail) sets
   unfolding Reaches
-  called made call given links brought does =
+  called made call given links sets brought does some =
       let before = is.group in
-      let new = learnt_by_call r call given.said in
       let after : LiveGroup = record {
         replicas = slice_set before.replicas r made;
         sent = before.sent ++ given.mail;
-        learnt = before.learnt ++ new;
+        learnt = before.learnt ++ learnt_by_call r call given.said;
       } in
-      let reached : Reaches is.config ((r, call) ∷ is.calls) after = (
+      let reached : Reaches c ((r, call) ∷ calls) after = (
         before,
         is.reached,
         record {
@@ -208,8 +235,6 @@ module _ (states : List ReplicaState) (letters : List Letter) (learnt : List Lea
         },
       ) in
       record {
-        config = is.config;
-        calls = (r, call) ∷ is.calls;
         group = after;
         reached = reached;
         are = ap (λ rs. slice_set rs r made) is.are;
@@ -217,127 +242,65 @@ module _ (states : List ReplicaState) (letters : List Letter) (learnt : List Lea
         sent =
             both_retold is.messages (mail_on links given.mail) after.sent
             (retold_more is.messages before.sent given.mail is.sent)
-            (sent_retold is.config ((r, call) ∷ is.calls) after reached links given.mail
+            (sent_retold c ((r, call) ∷ calls) after reached links given.mail
             (λ m has. Contains-append_right before.sent given.mail m has));
         of_these = letters_more letters is.messages links made given.mail is.of_these;
-        said = λ x has. elim (Contains-append_cases learnt new x has) [
-          | inl was ↦ Contains-append_left before.learnt new x (is.said x was)
-          | inr now ↦ Contains-append_right before.learnt new x now
-        ];
+        said = some;
       }
 
 pub calls_together : CallsKeepTogether
-calls_together states letters learnt r q made call given links together at brought does =
-    ∥∥₁_map together (λ is. called states letters learnt is r q at made call given links brought does)
+calls_together c calls states letters learnt r q made call given links is at brought does =
+    let new = learnt_by_call r call given.said in
+    called c calls states letters learnt is r q at made call given links (learnt ++ new) brought does
+    (some_both learnt is.group.learnt new is.said)
 
 pub fewer_together : FewerLettersKeepTogether
-fewer_together states letters left learnt together within =
-    ∥∥₁_map together (λ is. fewer states letters left learnt learnt within (λ x has. has) is)
+fewer_together c calls states letters left learnt together within =
+    fewer c calls states letters left learnt within together
 
 -- ## Calls of which nothing was given out
 
-one_lost : (states : List ReplicaState) (letters : List Letter) (learnt : List LearntSet) (r : ℕ)
-    (q next : ReplicaState) (call : NodeCall) → AreTogether states letters learnt → slice_get states r ≡ Some q
-    → IsBrought letters r q call → after_call q call ≡ Some next → AreTogether (slice_set states r next) letters learnt
-one_lost states letters learnt r q next call together at brought e =
+one_lost : (c : Config) (calls : List (ℕ × NodeCall)) (states : List ReplicaState) (letters : List Letter)
+    (learnt : List LearntSet) (r : ℕ) (q next : ReplicaState) (call : NodeCall)
+    → AreTogether c calls states letters learnt → slice_get states r ≡ Some q → IsBrought letters r q call
+    → after_call q call ≡ Some next → AreTogether c ((r, call) ∷ calls) (slice_set states r next) letters learnt
+one_lost c calls states letters learnt r q next call is at brought e =
     let x = some_of (λ (p : Given × ReplicaState). p.1) (node_step q call) next e in
     let given = x.0.0 in
     let new = letters_of no_links next given.mail in
-    let said = learnt_by_call r call given.said in
-    ∥∥₁_map together
-    (λ is.
-    fewer (slice_set states r next) (letters ++ new) letters (learnt ++ said) learnt
-    (λ l has. Contains-append_left letters new l has) (λ l has. Contains-append_left learnt said l has)
-    (called states letters learnt is r q at next call given no_links brought (x.1 ∙ ap (λ s. Some (given, s)) x.2)))
+    fewer c ((r, call) ∷ calls) (slice_set states r next) (letters ++ new) letters learnt
+    (λ l has. Contains-append_left letters new l has)
+    (called c calls states letters learnt is r q at next call given no_links learnt brought
+    (x.1 ∙ ap (λ s. Some (given, s)) x.2)
+    (some_more learnt is.group.learnt (learnt_by_call r call given.said) is.said))
 
 pub lost_together : LostCallsKeepTogether
-lost_together states letters learnt r q made [] together at same =
-    subst (λ qs. AreTogether qs letters learnt)
+lost_together c calls states letters learnt r q made [] together at same =
+    subst (λ qs. AreTogether c calls qs letters learnt)
     (sym (set_same states r q at) ∙ ap (slice_set states r) same) together
-lost_together states letters learnt r q made (call ∷ calls) together at (brought, (next, e, rest)) =
-    subst (λ qs. AreTogether qs letters learnt) (put_put states r next made)
-    (lost_together (slice_set states r next) letters learnt r next made calls
-    (one_lost states letters learnt r q next call together at brought e) (get_put states r q next at) rest)
+lost_together c calls states letters learnt r q made (call ∷ later) together at (brought, (next, e, rest)) =
+    subst (λ cs. AreTogether c cs (slice_set states r made) letters learnt)
+    (sym (append_assoc (newest_first r later) ((r, call) ∷ []) calls))
+    (subst (λ qs. AreTogether c (newest_first r later ++ (r, call) ∷ calls) qs letters learnt)
+    (put_put states r next made)
+    (lost_together c ((r, call) ∷ calls) (slice_set states r next) letters learnt r next made later
+    (one_lost c calls states letters learnt r q next call together at brought e) (get_put states r q next at) rest))
 
 -- ## What is sent again
 
 pub again_together : RepeatsKeepTogether
-again_together states letters learnt r q mail links chosen together at whole told =
+again_together c calls states letters learnt r q mail links chosen is at whole told =
     let some = filter chosen mail in
-    ∥∥₁_map together (λ is. record {
-      config = is.config;
-      calls = is.calls;
+    record {
       group = is.group;
       reached = is.reached;
       are = is.are;
       messages = is.messages ++ mail_on links some;
       sent =
           both_retold is.messages (mail_on links some) is.group.sent is.sent
-          (again_retold is.config is.calls is.group is.reached links r q (ap (λ rs. slice_get rs r) is.are ∙ at) mail
+          (again_retold c calls is.group is.reached links r q (ap (λ rs. slice_get rs r) is.are ∙ at) mail
           whole (told zero_counts) some
           (λ m has. IsIn_contains mail m (IsIn_filter chosen mail m (contains_IsIn some m has))));
       of_these = letters_more letters is.messages links q some is.of_these;
       said = is.said;
-    })
-
--- ## What they keep
-
-pub learnt_comparable_together : LearntTogetherAreComparable
-learnt_comparable_together states letters learnt x y together has_x has_y same =
-    comparable_from together x.updates y.updates
-    (λ is.
-    learnt_comparable_live is.config is.calls is.group is.reached x y (is.said x has_x) (is.said y has_y) same)
-
-pub views_comparable_together : ViewsTogetherAreComparable
-views_comparable_together states letters learnt m n together has_m has_n =
-    comparable_from together m.view n.view
-    (λ is.
-    views_comparable_live is.config [] is.calls is.group is.group m n is.reached is.reached
-    (subst (λ qs. Contains qs m) (sym is.are) has_m) (subst (λ qs. Contains qs n) (sym is.are) has_n))
-
-module _ (c : Config) (calls : List (ℕ × NodeCall)) (group : LiveGroup) (reached : Reaches c calls group) where
-  abbrev g : Group
-  g = live_group_of c
-
-  -- an object from which a replica returned is one of the group
-  object_there : (k : ℕ) (m : ReplicaState) (o : Outcome) → Contains group.replicas m → returned_by k m ≡ Some o
-      → k < c.commits
-  unfolding replica_state
-  object_there k m o has returned =
-      let (events, stands, are) = groups_stand c calls group reached in
-      let p = IsIn_place group.replicas m (contains_IsIn group.replicas m has) in
-      let state : m ≡ replica_state g (trace g events) p.0 = is_state c group events stands p.0 m p.1 in
-      go (trace g events) p.0 (slice_get (replica_state g (trace g events) p.0).instances (second_instance k)) refl
-      (ap (returned_by k) (sym state) ∙ returned)
-    where
-      go : (t : Trace) (r : ℕ) (found : Option Instance)
-          → slice_get (replica_state g t r).instances (second_instance k) ≡ found
-          → returned_by k (replica_state g t r) ≡ Some o → k < c.commits
-      go t r None at e =
-          absurd (none-some o (sym (ap (λ x. option_and_then (λ s. outcome_of s r) (learnt_of x)) at) ∙ e))
-      go t r (Some x) at e =
-          omega (
-            arith,
-            slice_get_within (replica_state g t r).instances (second_instance k) x at,
-            length-map-range_with_len (instance_of g t r) 0 (instances g),
-          )
-
-  decided : (k : ℕ) (m : ReplicaState) (o : Outcome) → Contains group.replicas m → returned_by k m ≡ Some o
-      → Contains (decisions_of c group.replicas) (decision_of k m.own o)
-  decided k m o has returned =
-      listed_by decision_by group.replicas c.commits k m (decision_of k m.own o) (object_there k m o has returned)
-      (contains_IsIn group.replicas m has) (ap (option_map (decision_of k m.own)) returned)
-
-  agree : (k : ℕ) (m n : ReplicaState) (o p : Outcome) → Contains group.replicas m → Contains group.replicas n
-      → returned_by k m ≡ Some o → returned_by k n ≡ Some p → is_commit o ≡ true → value_of p ≡ value_of o
-  agree k m n o p has_m has_n by_m by_n commits =
-      let (events, are, keeps) = keeps_all c calls group reached in
-      keeps.safe.agree (decision_of k m.own o) (decision_of k n.own p) (decided k m o has_m by_m)
-      (decided k n p has_n by_n) refl commits
-
-pub commits_together : CommitsTogetherAgree
-commits_together states letters learnt m n k o p together has_m has_n by_m by_n commits =
-    ∥∥₁_elim together (hlevel (ℕ_set))
-    (λ is.
-    agree is.config is.calls is.group is.reached k m n o p (subst (λ qs. Contains qs m) (sym is.are) has_m)
-    (subst (λ qs. Contains qs n) (sym is.are) has_n) by_m by_n commits)
+    }

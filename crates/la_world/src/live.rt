@@ -8,8 +8,8 @@ ghost use Rattle.la_world.specs.LiveGroups.{NetworksMayLose, CallsKeepLive, Unhe
 ghost use Rattle.la_world.specs.LiveParcels.{ParcelReceiptsKeepLive, LettersTellWhatWasSent};
 ghost use Rattle.la_world.specs.Together.{NewReplicasAreTogether, CallsKeepTogether, FewerLettersKeepTogether};
 ghost use Rattle.la_world.specs.Together.{LostCallsKeepTogether};
-ghost use Rattle.la_world.specs.Together.{RepeatsKeepTogether, LearntTogetherAreComparable};
-ghost use Rattle.la_world.specs.Together.{ViewsTogetherAreComparable, CommitsTogetherAgree};
+ghost use Rattle.la_world.specs.Together.{RepeatsKeepTogether};
+ghost use Rattle.la_world.specs.Moments.{LiveGroupsKeepAllOver, TogetherKeepAll, TogetherKeepAllOfEvents};
 
 pub use la_node::laws::{kept_lists_are_played_again, kept_lists_lead_on};
 
@@ -20,9 +20,12 @@ pub fn groups_stand_for_events()
 {}
 
 /// A group that calls lead to keeps all that a world promises of the events that these calls are: of
-/// what is learnt, of its nodes' views, and of what they return from adopt-commit objects.
+/// what is learnt, of its nodes' views, and of what they return from adopt-commit objects. That is `events`, of each
+/// moment and every instance. By `all` nodes keep what is promised over all moments: of what any of them had come to
+/// after some calls, and any had after these or more.
 pub fn groups_keep_all_promises()
-    ensures { LiveGroupsKeepAll }
+    ensures events { LiveGroupsKeepAll }
+    ensures all { LiveGroupsKeepAllOver }
 {}
 
 /// Any two sets that nodes said they learnt in one instance are comparable.
@@ -87,7 +90,8 @@ pub fn new_replicas_are_together()
 
 /// Replicas that run each by itself stay together over any call of one of them, whatever it believes of the receivers
 /// of its letters; where some letters never go out; over calls of which nothing was given out, as of one that was killed
-/// and started again; and where one sends again what waits for an answer, or some of it.
+/// and started again; and where one sends again what waits for an answer, or some of it. All calls that any of them
+/// accepted are known, the newest first: those too of which nothing was given out.
 pub fn replicas_stay_together()
     ensures calls { CallsKeepTogether }
     ensures fewer { FewerLettersKeepTogether }
@@ -95,11 +99,12 @@ pub fn replicas_stay_together()
     ensures again { RepeatsKeepTogether }
 {}
 
-/// Of replicas that are together, over whatever losses, repeats, reorderings and restarts: any two sets that were
-/// learnt in one instance are comparable, and any two views; and where one commits a value in an adopt-commit object,
-/// all that return from that return it.
+/// Of replicas that are together, over whatever losses, repeats, reorderings and restarts, `all` has what they keep
+/// over all moments: of what any of them showed after some calls, and any showed after these or more. Views, and sets
+/// that were learnt, are one chain, and were submitted; no view shrinks; an outcome stays, and outcomes agree; what
+/// holds an update has all that was shown before it was submitted. By `events` they keep at each moment what a live
+/// group keeps ([`groups_keep_all_promises`]), in every instance.
 pub fn replicas_together_keep_promises()
-    ensures learnt { LearntTogetherAreComparable }
-    ensures views { ViewsTogetherAreComparable }
-    ensures commits { CommitsTogetherAgree }
+    ensures all { TogetherKeepAll }
+    ensures events { TogetherKeepAllOfEvents }
 {}
