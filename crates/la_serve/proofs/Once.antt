@@ -335,7 +335,7 @@ module _ (laws : ProposersGoOn) where
       let call = call_of_line before said.0 (said.1, after) said.2 in
       let goes = step_goes laws before may call.0 (said.1, after) call.2 in (
         (λ number d is.
-        ap (λ ds. object_op_number ds number) goes.adds ∙ under_more (submissions_by before) _ number d is),
+            ap (λ ds. object_op_number ds number) goes.adds ∙ under_more (submissions_by before) _ number d is),
         goes.may,
         goes.own,
       )

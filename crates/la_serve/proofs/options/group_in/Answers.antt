@@ -56,8 +56,7 @@ returns-then-counts-from-clause-error c =
     let replicas =
     taken_is_given 8 (λ bs r. ParsesUnsigned 8 10 bs r × ExplainsUnsignedError 10 bs r × HasUnsignedDigitsIfOk bs r)
     found (codes "replicas") 1 8 c.get_one.result c.unwrap-replicas.result c.requires.replicas (omega arith)
-    c.unwrap-replicas.ensures c.get_one.ensures.none c.get_one.ensures.value (λ u x g. g.0) in
-    (
+    c.unwrap-replicas.ensures c.get_one.ensures.none c.get_one.ensures.value (λ u x g. g.0) in (
       replicas.0,
       votes_of c.in-Some.votes,
       c.in-Some.ensures,
