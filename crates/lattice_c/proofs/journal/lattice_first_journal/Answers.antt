@@ -1,7 +1,5 @@
-use Rattle.std.proofs.Common.{◌≡◌, ◌<◌, ◌++◌, drop, length, inl, inr, refl, ap, ◌∙◌, rules}
+use Rattle.std.proofs.Common.{◌≡◌, ◌<◌, ◌++◌, drop, length, inl, inr, refl, rules}
 use Rattle.la_node.specs.declared.config.Config.{Config}
-use Rattle.lattice_c.specs.Starting.{IsGroupTold}
-use Rattle.lattice_c.specs.Journals.{IsFirstJournal}
 use Rattle.lattice_c.proofs.Firsts.{all_handed_out, none_handed_out}
 use Rattle.lattice_c.proofs.journal.lattice_first_journal.Goals as goal
 
